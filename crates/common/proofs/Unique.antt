@@ -1,0 +1,39 @@
+-- Each contract admits one answer. The theorems are about the contracts' own readings, `Reads.Post`, and not about a copy of them.
+-- Assumes nothing.
+use mathlib.Core.Path.{_≡_, sym, _∙_}
+use Rattle.common.proofs.Same.{One, same-answer, same-verdict}
+use Rattle.common.proofs.constants.Kinds as constants-kinds
+use Rattle.common.proofs.constants.Reads as constants
+use Rattle.common.proofs.is_finite.Kinds as is-finite-kinds
+use Rattle.common.proofs.is_finite.Reads as is-finite
+use Rattle.common.proofs.settle.Kinds as settle-kinds
+use Rattle.common.proofs.settle.Reads as settle
+use Rattle.common.proofs.number.Kinds as number-kinds
+use Rattle.common.proofs.number.Reads as number
+use Rattle.common.proofs.ranged.Kinds as ranged-kinds
+use Rattle.common.proofs.ranged.Reads as ranged
+use Rattle.common.proofs.check_only.Kinds as check-only-kinds
+use Rattle.common.proofs.check_only.Reads as check-only
+use Rattle.common.proofs.check_pair.Kinds as check-pair-kinds
+use Rattle.common.proofs.check_pair.Reads as check-pair
+
+pub constants-one : One 0 constants-kinds.ps constants-kinds.r constants.Post
+constants-one κs a e x y p q = p ∙ sym q
+
+pub is-finite-one : One 0 is-finite-kinds.ps is-finite-kinds.r is-finite.Post
+is-finite-one κs a e x y p q = p ∙ sym q
+
+pub settle-one : One 0 settle-kinds.ps settle-kinds.r settle.Post
+settle-one κs a e x y p q = same-answer _ x y p q
+
+pub number-one : One 0 number-kinds.ps number-kinds.r number.Post
+number-one κs a e x y p q = p ∙ sym q
+
+pub ranged-one : One 0 ranged-kinds.ps ranged-kinds.r ranged.Post
+ranged-one κs a e x y p q = p ∙ sym q
+
+pub check-only-one : One 0 check-only-kinds.ps check-only-kinds.r check-only.Post
+check-only-one κs a e x y p q = same-verdict _ x y p q
+
+pub check-pair-one : One 0 check-pair-kinds.ps check-pair-kinds.r check-pair.Post
+check-pair-one κs a e x y p q = same-verdict _ x y p q

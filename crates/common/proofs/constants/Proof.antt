@@ -1,0 +1,15 @@
+-- `common::constants` meets its contract: antt computes that the bits of each literal are those of its decimal, rounded once.
+-- Assumes nothing.
+use mathlib.Core.Path.{refl}
+use lib.Ieee.{ofBits}
+use Rattle.common.specs.Constant.{printed}
+use Rattle.common.specs.Decimal.{decimal, whole, scaled}
+use Rattle.common.proofs.constants.Statement.{statement}
+use Rattle.common.proofs.constants.Tie as tie
+
+returns : tie.Need-returns
+unfolding ofBits printed decimal whole scaled
+returns c = refl
+
+pub constants-spec : {M : Type 1} → statement M
+constants-spec = tie.close (tie.spec returns)

@@ -1,0 +1,12 @@
+-- `common::ranged` meets its contract. Assumes nothing.
+use Rattle.common.proofs.ranged.Statement.{statement}
+use Rattle.common.proofs.ranged.Tie as tie
+
+returns : tie.Need-returns
+returns c = rw (c .if1 .taken)
+
+returns-2 : tie.Need-returns-2
+returns-2 c = rw (c .if1 .left)
+
+pub ranged-spec : {M : Type 1} → statement M
+ranged-spec = tie.close (tie.spec returns returns-2)

@@ -1,0 +1,27 @@
+-- The paper's number and value for each case of an answer. Assumes nothing: these are definitions.
+use Prim.Native.Nat.{ℕ}
+use lib.Ieee.{Float}
+use Rattle.common.specs.Outcome.{Outcome, value, refused}
+use Rattle.common.specs.declared.Refusal.{Refusal}
+use Rattle.common.specs.declared.Refusal.the-variants.{NotFinite, First, Second, State, Step, Property, Columns}
+use Rattle.common.specs.declared.Answer.{Answer}
+use Rattle.common.specs.declared.Answer.the-variants as answer
+use Rattle.common.specs.declared.Verdict.{Verdict}
+use Rattle.common.specs.declared.Verdict.the-variants as verdicts
+
+abbrev pub numberOf : Refusal → ℕ
+numberOf NotFinite = 1
+numberOf First = 2
+numberOf Second = 3
+numberOf State = 4
+numberOf Step = 5
+numberOf Property = 6
+numberOf Columns = 7
+
+abbrev pub paper : Answer → Outcome Float
+paper (answer.Value x) = value x
+paper (answer.Refused k) = refused (numberOf k)
+
+abbrev pub verdict : Verdict → Outcome Unit
+verdict verdicts.Accepted = value tt
+verdict (verdicts.Refused k) = refused (numberOf k)

@@ -1,0 +1,41 @@
+-- A number as a document prints it: the f64 nearest to a decimal, rounded once. Assumes nothing: these are definitions.
+use Prim.Native.Nat.{ℕ, suc, _*_, _^_}
+use mathlib.Core.Bool.{Bool, true, false}
+use lib.IntN.{ℤ, pos, negsuc, negℤ}
+use lib.Ieee.{Float, binary64, round}
+
+abbrev pub minus : ℕ → ℤ
+minus n = negℤ (pos n)
+
+abbrev pub tens : ℤ → ℕ
+tens (pos k) = 10 ^ k
+tens (negsuc k) = 1
+
+abbrev pub tenths : ℤ → ℕ
+tenths (pos k) = 1
+tenths (negsuc k) = 10 ^ suc k
+
+-- ±digits / 10^places * 10^e, rounded once
+unfoldable pub scaled : Bool → ℕ → ℕ → ℤ → Float
+unfolding round
+scaled s digits places e = round binary64 s (digits * tens e) (10 ^ places * tenths e)
+
+-- digits with so many places after the point: `decimal 647_096 3` is 647.096
+unfoldable pub decimal : ℕ → ℕ → Float
+unfolding scaled
+decimal digits places = scaled false digits places (pos 0)
+
+-- a whole number
+unfoldable pub whole : ℕ → Float
+unfolding scaled
+whole n = scaled false n 0 (pos 0)
+
+-- The documents print a coefficient as 0.digits * 10^e with 15 digits: `more 0_110879558823853 (minus 2)` is 0.110879558823853 * 10^-2,
+-- and `less` is the negative of it.
+unfoldable pub more : ℕ → ℤ → Float
+unfolding scaled
+more digits e = scaled false digits 15 e
+
+unfoldable pub less : ℕ → ℤ → Float
+unfolding scaled
+less digits e = scaled true digits 15 e

@@ -1,0 +1,5 @@
+pub mod Outcome
+pub mod Decimal
+pub mod Range
+pub mod Constant
+pub mod Answer

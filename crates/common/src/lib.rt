@@ -1,0 +1,178 @@
+// What every layer shares: the units, the refusals, the answer for one number, the ranges and the constants.
+// The meaning of each answer is in specs/Answer.antt, of each range and constant in specs/Constant.antt.
+ghost use mathlib.Core.Path.{_≡_};
+ghost use Rattle.common.specs.Outcome.{finite, check};
+ghost use Rattle.common.specs.Answer.{numberOf, paper, verdict};
+ghost use Rattle.common.specs.Range.{within, onlyRule, pairRule};
+ghost use Rattle.common.specs.Constant.{printed};
+
+// A pressure.
+pub struct MPa(pub f64);
+
+// A temperature.
+pub struct Kelvin(pub f64);
+
+// A density.
+pub struct KgPerM3(pub f64);
+
+// An enthalpy.
+pub struct KJPerKg(pub f64);
+
+// An entropy.
+pub struct KJPerKgK(pub f64);
+
+// Why a call is refused. `numberOf` gives the paper's number of each case.
+pub enum Refusal {
+    NotFinite,
+    First,
+    Second,
+    State,
+    Step,
+    Property,
+    Columns,
+}
+
+// The answer of a call for one number.
+pub enum Answer {
+    Value(f64),
+    Refused(Refusal),
+}
+
+// The answer of a test, or of a call whose numbers stand beside it.
+pub enum Verdict {
+    Accepted,
+    Refused(Refusal),
+}
+
+// The box: both ends of each range count as inside.
+pub const P_FROM: f64 = 16.529;
+pub const P_TO: f64 = 100.0;
+pub const T_FROM: f64 = 623.15;
+pub const T_TO: f64 = 863.15;
+pub const D_FROM: f64 = 100.0;
+pub const D_TO: f64 = 800.0;
+pub const H_FROM: f64 = 1500.0;
+pub const H_TO: f64 = 2900.0;
+pub const S_FROM: f64 = 3.3;
+pub const S_TO: f64 = 5.3;
+
+// Where p and T end on the saturation line.
+pub const P_MAX4: f64 = 22.064;
+pub const T_MAX4: f64 = 647.096;
+
+// common/constant.rs
+pub const P_TOL: f64 = 1.0e-15;
+pub const T_TOL: f64 = 1.0e-5;
+pub const RGAS_WATER: f64 = 0.461526;
+pub const TC_WATER: f64 = 647.096;
+pub const PC_WATER: f64 = 22.064;
+pub const DC_WATER: f64 = 322.0;
+pub const SC_WATER: f64 = 4.41202148223476;
+pub const TT: f64 = 273.16;
+
+// common/property_id.rs: the 25 numbers of the properties at a (T,d).
+pub const OP: i32 = 0;
+pub const OV: i32 = 3;
+pub const OH: i32 = 4;
+pub const OS: i32 = 5;
+pub const OE: i32 = 6;
+pub const OU: i32 = 7;
+pub const OCP: i32 = 8;
+pub const OCV: i32 = 9;
+pub const OW: i32 = 10;
+pub const OKS: i32 = 11;
+pub const OF: i32 = 12;
+pub const OG: i32 = 13;
+pub const OZ: i32 = 14;
+pub const OEC: i32 = 17;
+pub const OKT: i32 = 18;
+pub const ODVDT: i32 = 19;
+pub const ODVDP: i32 = 20;
+pub const ODPDT: i32 = 21;
+pub const OIJTC: i32 = 22;
+pub const OJTC: i32 = 23;
+pub const OPC: i32 = 31;
+pub const OBETAP: i32 = 32;
+pub const OFI: i32 = 33;
+pub const OFU: i32 = 34;
+pub const OALFAP: i32 = 35;
+
+// The ranges' ends and the constants, in the order of specs/Constant.antt: its contract is the one test that each literal is its decimal.
+pub fn constants() -> [f64; 20]
+    ensures { λ r. ⌜ r ≡ printed ⌝ }
+{
+    [
+        P_FROM, P_TO, T_FROM, T_TO, D_FROM, D_TO, H_FROM, H_TO, S_FROM, S_TO, P_MAX4, T_MAX4,
+        P_TOL, T_TOL, RGAS_WATER, TC_WATER, PC_WATER, DC_WATER, SC_WATER, TT,
+    ]
+}
+
+pub fn is_finite(x: f64) -> bool
+    ensures { λ r. ⌜ r ≡ finite x ⌝ }
+{
+    let top: f64 = 1.0 / 0.0;
+    if x < top { -top < x } else { false }
+}
+
+// A step's number, or refusal 5.
+pub fn settle(x: f64) -> Answer
+    ensures { λ r. ⌜ paper r ≡ check x ⌝ }
+{
+    if is_finite(x) {
+        Answer::Value(x)
+    } else {
+        Answer::Refused(Refusal::Step)
+    }
+}
+
+pub fn number(k: Refusal) -> u8
+    ensures { λ r. ⌜ r ≡ numberOf k ⌝ }
+{
+    match k {
+        Refusal::NotFinite => 1,
+        Refusal::First => 2,
+        Refusal::Second => 3,
+        Refusal::State => 4,
+        Refusal::Step => 5,
+        Refusal::Property => 6,
+        Refusal::Columns => 7,
+    }
+}
+
+// Whether x is from `from` to `to`, both ends inside.
+pub fn ranged(x: f64, from: f64, to: f64) -> bool
+    ensures { λ r. ⌜ r ≡ within from to x ⌝ }
+{
+    if from <= x { x <= to } else { false }
+}
+
+// The checks of a call with one argument.
+pub fn check_only(x: f64, from: f64, to: f64) -> Verdict
+    ensures { λ r. ⌜ verdict r ≡ onlyRule from to x ⌝ }
+{
+    if is_finite(x) {
+        if ranged(x, from, to) {
+            return Verdict::Accepted;
+        }
+        return Verdict::Refused(Refusal::First);
+    }
+    Verdict::Refused(Refusal::NotFinite)
+}
+
+// The checks of a call with two arguments, x and y.
+pub fn check_pair(x: f64, x_from: f64, x_to: f64, y: f64, y_from: f64, y_to: f64) -> Verdict
+    ensures { λ r. ⌜ verdict r ≡ pairRule «x_from» «x_to» x «y_from» «y_to» y ⌝ }
+{
+    if is_finite(x) {
+        if is_finite(y) {
+            if ranged(x, x_from, x_to) {
+                if ranged(y, y_from, y_to) {
+                    return Verdict::Accepted;
+                }
+                return Verdict::Refused(Refusal::Second);
+            }
+            return Verdict::Refused(Refusal::First);
+        }
+    }
+    Verdict::Refused(Refusal::NotFinite)
+}
