@@ -8,6 +8,8 @@ use Rattle.common.proofs.is_finite.Kinds as is-finite-kinds
 use Rattle.common.proofs.is_finite.Reads as is-finite
 use Rattle.common.proofs.settle.Kinds as settle-kinds
 use Rattle.common.proofs.settle.Reads as settle
+use Rattle.common.proofs.or_nan.Kinds as or-nan-kinds
+use Rattle.common.proofs.or_nan.Reads as or-nan
 use Rattle.common.proofs.number.Kinds as number-kinds
 use Rattle.common.proofs.number.Reads as number
 use Rattle.common.proofs.ranged.Kinds as ranged-kinds
@@ -25,6 +27,9 @@ is-finite-one κs a e x y p q = p ∙ sym q
 
 pub settle-one : One 0 settle-kinds.ps settle-kinds.r settle.Post
 settle-one κs a e x y p q = same-answer _ x y p q
+
+pub or-nan-one : One 0 or-nan-kinds.ps or-nan-kinds.r or-nan.Post
+or-nan-one κs a e x y p q = p ∙ sym q
 
 pub number-one : One 0 number-kinds.ps number-kinds.r number.Post
 number-one κs a e x y p q = p ∙ sym q

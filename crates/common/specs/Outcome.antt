@@ -48,3 +48,8 @@ zeroF = fin false 0 (pos 0)
 abbrev pub valueIn : Outcome Float → Float
 valueIn (value x) = x
 valueIn (refused k) = zeroF
+
+-- the number in an outcome: a NaN for a refused call, so that what is worked out from it is lost too
+abbrev pub orNan : Outcome Float → Float
+orNan (value x) = x
+orNan (refused k) = nan

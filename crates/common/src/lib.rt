@@ -1,7 +1,7 @@
 // What every layer shares: the units, the refusals, the answer for one number, the ranges and the constants.
 // The meaning of each answer is in specs/Answer.antt, of each range and constant in specs/Constant.antt.
 ghost use mathlib.Core.Path.{_≡_};
-ghost use Rattle.common.specs.Outcome.{finite, check};
+ghost use Rattle.common.specs.Outcome.{finite, check, orNan};
 ghost use Rattle.common.specs.Answer.{numberOf, paper, verdict};
 ghost use Rattle.common.specs.Range.{within, onlyRule, pairRule};
 ghost use Rattle.common.specs.Constant.{printed};
@@ -122,6 +122,16 @@ pub fn settle(x: f64) -> Answer
         Answer::Value(x)
     } else {
         Answer::Refused(Refusal::Step)
+    }
+}
+
+// The number of an answer, or a NaN where it is refused: for a layer that tests once.
+pub fn or_nan(a: Answer) -> f64
+    ensures { λ r. ⌜ r ≡ orNan (paper a) ⌝ }
+{
+    match a {
+        Answer::Value(x) => x,
+        Answer::Refused(_) => 0.0 / 0.0,
     }
 }
 

@@ -1,0 +1,11 @@
+pub mod Powers
+pub mod Squares
+pub mod Rounds
+pub mod Fields
+pub mod Digits
+pub mod Whole
+pub mod Signs
+pub mod Logs
+pub mod Exps
+pub mod Meaning
+pub mod Points

@@ -1,0 +1,192 @@
+-- The logarithm's rule at a number's 53 digits, and that its checks come to one at the end. Assumes nothing.
+use mathlib.Core.Path.{_≡_, refl, sym, ap, _∙_, subst}
+use mathlib.Core.List.{List, [], _∷_}
+use Prim.Native.Nat.{ℕ, zero, suc, _+_, _-_, _*_, _/_, _^_, _≤_, _<_}
+use native.Mathlib.Nat.{le-trans, le-of-eq, le-of-lt, lt-of-lt-of-le, mul-one, one-mul, mul-pos, mul-assoc, mul-right-comm, mul-le-mul-right, mul-lt-mul-of-pos-right, le-of-mul-le-mul-right, lt-of-mul-lt-mul-right, pow-succ'}
+use native.Mathlib.Omega.{arith}
+use mathlib.Core.Bool.{Bool, true, false, not, cond}
+use lib.Dec.{T, ltb, lt→ltb, ltb→lt, not-T}
+use lib.IntN.{ℤ, pos, negsuc}
+use lib.Pow.{pow-pos, pow-add, pow-mono}
+use lib.Ieee.{Float, nan, inf, fin, binary64, fits, up, down, minus, size, round, add, sub, mul, div, sum, ofInt, ofBits}
+use lib.Ieee.Bits.{ofBits-fits, is-true, is-false}
+use lib.Ieee.Fits.{round-fits, down-pos}
+use lib.Ieee.Exact.{HasValue, round-exact}
+use Rattle.common.specs.Outcome.{Outcome, value, refused, finite, check, then}
+use Rattle.rules.specs.Units.{inUnits, positive}
+use Rattle.rules.specs.Log.{number, L, inverse, series, odds, lnSteps, places, lnOf, logarithmRule, rawSeries, rawTail, rawLn}
+use Rattle.common.proofs.Laws.{Lost, mul-left, mul-right, add-left, add-right, div-left, check-lost, check-kept, next}
+use Rattle.rules.proofs.Fields.{PartsOf, same, read-suc}
+use Rattle.rules.proofs.Whole.{size-is}
+use Rattle.rules.proofs.Signs.{above}
+use Rattle.rules.proofs.Rounds.{small-finite, rescale}
+
+-- ---- the checks
+
+series-lost : (y q : Float) (ks : List ℕ) → Lost q → Lost (rawSeries y q ks)
+unfolding rawSeries
+series-lost y q [] l = l
+series-lost y q (k ∷ ks) l = series-lost y (add binary64 (mul binary64 q y) (inverse k)) ks (add-left (mul binary64 q y) (inverse k) (mul-left q y l))
+
+lost-first : (y q : Float) (k : ℕ) (ks : List ℕ) → Lost y → Lost (rawSeries y q (k ∷ ks))
+unfolding rawSeries
+lost-first y q k ks l = series-lost y (add binary64 (mul binary64 q y) (inverse k)) ks (add-left (mul binary64 q y) (inverse k) (mul-right q y l))
+
+series-check : (y q : Float) (ks : List ℕ) → finite q ≡ true → series y q ks ≡ check (rawSeries y q ks)
+unfolding series rawSeries
+series-check y q [] f = sym (check-kept q f)
+series-check y q (k ∷ ks) f =
+    let p = mul binary64 q y in
+    let s = add binary64 p (inverse k) in
+    let o = check (rawSeries y s ks) in
+    let bad : Lost s → o ≡ refused 5 = λ l. check-lost (rawSeries y s ks) (series-lost y s ks l) in
+    next p _ o (λ _. next s _ o (λ g. series-check y s ks g) bad) (λ l. bad (add-left p (inverse k) l))
+
+first : finite (inverse 27) ≡ true
+unfolding inverse number div ofInt round
+first = refl
+
+pub ln-check : (m : Float) (e : ℤ) → finite (add binary64 m (number 1)) ≡ true → lnSteps m e ≡ check (rawLn m (ofInt binary64 e))
+unfolding lnSteps rawLn rawSeries
+ln-check m e f =
+    let a = sub binary64 m (number 1) in
+    let b = add binary64 m (number 1) in
+    let z = div binary64 a b in
+    let y = mul binary64 z z in
+    let q = rawSeries y (inverse 27) odds in
+    let t = mul binary64 (ofInt binary64 e) L in
+    let w = mul binary64 (number 2) z in
+    let v = mul binary64 w q in
+    let o = check (add binary64 t v) in
+    let bad-v : Lost v → o ≡ refused 5 = λ l. check-lost (add binary64 t v) (add-right t v l) in
+    let bad-q : Lost q → o ≡ refused 5 = λ l. bad-v (mul-right w q l) in
+    let bad-w : Lost w → o ≡ refused 5 = λ l. bad-v (mul-left w q l) in
+    let bad-z : Lost z → o ≡ refused 5 = λ l. bad-w (mul-right (number 2) z l) in
+    let bad-y : Lost y → o ≡ refused 5 = λ l. bad-q (lost-first y (inverse 27) 25 (23 ∷ 21 ∷ 19 ∷ 17 ∷ 15 ∷ 13 ∷ 11 ∷ 9 ∷ 7 ∷ 5 ∷ 3 ∷ 1 ∷ []) l) in
+    next a _ o
+    (λ _. rw (check-kept b f)
+    (next z _ o
+    (λ _. next y _ o
+    (λ _. rw (series-check y (inverse 27) odds first)
+    (next q _ o
+    (λ _. next t _ o
+    (λ _. next w _ o
+    (λ _. next v _ o (λ _. refl) bad-v)
+    bad-w)
+    (λ l. check-lost (add binary64 t v) (add-left t v l)))
+    bad-q))
+    bad-y)
+    bad-z))
+    (λ l. bad-z (div-left a b l))
+
+-- ---- m: from 0.75 up to 1.5
+
+-- d * 2^j of the smallest numbers, with j + k = 1022 + e, is x / 2^k
+same-size : (x d e j k : ℕ) → d * 2 ^ e ≡ x * 2 ^ 52 → j + k ≡ e + 1022 → x * 2 ^ 1074 ≡ d * 2 ^ j * 2 ^ k
+same-size x d e j k p h =
+    sym (mul-assoc x (2 ^ 52) (2 ^ 1022)) ∙ ap (λ (y : ℕ). y * 2 ^ 1022) (sym p) ∙ mul-assoc d (2 ^ e) (2 ^ 1022)
+    ∙ ap (λ (y : ℕ). d * y) (sym (pow-add 2 e 1022) ∙ ap (λ (y : ℕ). 2 ^ y) (sym h) ∙ pow-add 2 j k) ∙ sym (mul-assoc d (2 ^ j) (2 ^ k))
+
+fine : (d j : ℕ) → d < 2 ^ 53 → j ≤ 1022 → d * 2 ^ j < 2 ^ 2098
+fine d j h g = lt-of-lt-of-le (mul-lt-mul-of-pos-right h (pow-pos j)) (le-trans (le-of-eq (sym (pow-add 2 53 j))) (pow-mono {i = 53 + j} {j = 2098} (omega arith)))
+
+module _ (x d e j k : ℕ) (lo : 2 ^ 52 ≤ d) (hi : d < 2 ^ 53) (p : d * 2 ^ e ≡ x * 2 ^ 52) (h : j + k ≡ e + 1022) (small : j ≤ 1022) where
+  m-value : HasValue (round binary64 false x (2 ^ k)) false (d * 2 ^ j) (2 ^ 1074)
+  m-value =
+      rescale (round binary64 false x (2 ^ k)) false x (2 ^ k) (d * 2 ^ j) (2 ^ 1074) (pow-pos k) (sym (same-size x d e j k p h))
+      (round-exact binary64 false x (2 ^ k) d j (pow-pos k) hi (fine d j hi small) (same-size x d e j k p h))
+
+  m-is : ofBits binary64 (j * 2 ^ 52 + d) ≡ round binary64 false x (2 ^ k)
+  m-is = same (ofBits binary64 (j * 2 ^ 52 + d)) (round binary64 false x (2 ^ k)) false (d * 2 ^ j) (ofBits-fits binary64 (j * 2 ^ 52 + d)) (round-fits binary64 false x (2 ^ k)) (read-suc j d (omega arith) lo hi) m-value
+
+-- m + 1 is finite
+at-most : (d j w : ℕ) → d < 2 ^ 53 → j ≤ 1022 → d * 2 ^ j * w ≤ 2 * w * 2 ^ 1074
+at-most d j w h g =
+    le-trans (mul-le-mul-right w (le-trans (le-of-lt (mul-lt-mul-of-pos-right h (pow-pos j))) (le-trans (le-of-eq (sym (pow-add 2 53 j))) (pow-mono {i = 53 + j} {j = 1075} (omega arith)))))
+    (le-of-eq (turn (2 ^ 1074) w))
+  where
+    turn : (a w : ℕ) → 2 * a * w ≡ 2 * w * a
+    turn a w = mul-right-comm 2 a w
+
+plus-one : (m : Float) (d j : ℕ) → d < 2 ^ 53 → j ≤ 1022 → HasValue m false (d * 2 ^ j) (2 ^ 1074) → finite (add binary64 m (number 1)) ≡ true
+unfolding add sum number ofInt round
+plus-one nan d j h g v = absurd v
+plus-one (inf s) d j h g v = absurd v
+plus-one (fin true n i) d j h g v = absurd (subst T (v .0) tt)
+plus-one (fin false n i) d j h g v =
+    small-finite (n * up i * 1 + 1 * down i) (down i * 1) (mul-pos (down-pos i) (pow-pos 0))
+    (three (n * up i) (down i) (le-of-mul-le-mul-right {n = 2 * down i} (le-trans (le-of-eq (v .1)) (at-most d j (down i) h g)) (pow-pos 1074)))
+  where
+    three : (a w : ℕ) → a ≤ 2 * w → a * 1 + 1 * w ≤ 2048 * (w * 1)
+    three a w h = omega arith
+
+-- ---- the places
+size-of : (x d e : ℕ) → 2 ^ 52 ≤ d → d < 2 ^ 53 → d * 2 ^ e ≡ x * 2 ^ 52 → size x ≡ suc e
+size-of x d e lo hi p =
+    size-is x e
+    (le-of-mul-le-mul-right {n = x} (le-trans (le-of-eq (swap (2 ^ e) (2 ^ 52))) (le-trans (mul-le-mul-right (2 ^ e) lo) (le-of-eq p))) (pow-pos 52))
+    (lt-of-mul-lt-mul-right (2 ^ 52) (lt-of-lt-of-le (subst (λ (y : ℕ). y < 2 ^ 53 * 2 ^ e) p (mul-lt-mul-of-pos-right hi (pow-pos e))) (le-of-eq (twice (2 ^ e) ∙ ap (λ (y : ℕ). y * 2 ^ 52) (sym (pow-succ' 2 e))))))
+  where
+    swap : (a b : ℕ) → a * b ≡ b * a
+    swap a b = omega arith
+
+    twice : (a : ℕ) → 2 ^ 53 * a ≡ 2 * a * 2 ^ 52
+    twice a = omega arith
+
+scaled-lt : (x d q : ℕ) → d * q ≡ x * 2 ^ 52 → 0 < q → d < 3 * 2 ^ 51 → 2 * x < 3 * q
+scaled-lt x d q p z h = let g : d * q < 3 * 2 ^ 51 * q = mul-lt-mul-of-pos-right h z in omega (arith, p, g)
+
+scaled-ge : (x d q : ℕ) → d * q ≡ x * 2 ^ 52 → 3 * 2 ^ 51 ≤ d → 3 * q ≤ 2 * x
+scaled-ge x d q p h = let g : 3 * 2 ^ 51 * q ≤ d * q = mul-le-mul-right q h in omega (arith, p, g)
+
+abbrev placed : ℕ → ℕ → ℕ
+placed x z = cond (ltb (2 * x) (3 * 2 ^ (z - 1))) (z - 1) z
+
+one-less : (e : ℕ) → suc e - 1 ≡ e
+one-less e = omega arith
+
+false-of : (b : Bool) → (T b → ⊥) → b ≡ false
+false-of true h = absurd (h tt)
+false-of false h = refl
+
+places-low : (x d e : ℕ) → 2 ^ 52 ≤ d → d < 2 ^ 53 → d * 2 ^ e ≡ x * 2 ^ 52 → d < 3 * 2 ^ 51 → places x ≡ e
+places-low x d e lo hi p h =
+    ap (λ (z : ℕ). placed x z) (size-of x d e lo hi p)
+    ∙ ap (λ (z : ℕ). cond (ltb (2 * x) (3 * 2 ^ z)) z (suc e)) (one-less e)
+    ∙ ap (λ (b : Bool). cond b e (suc e)) (is-true (ltb (2 * x) (3 * 2 ^ e)) (lt→ltb (2 * x) (3 * 2 ^ e) (scaled-lt x d (2 ^ e) p (pow-pos e) h)))
+
+places-high : (x d e : ℕ) → 2 ^ 52 ≤ d → d < 2 ^ 53 → d * 2 ^ e ≡ x * 2 ^ 52 → 3 * 2 ^ 51 ≤ d → places x ≡ e + 1
+places-high x d e lo hi p h =
+    ap (λ (z : ℕ). placed x z) (size-of x d e lo hi p)
+    ∙ ap (λ (z : ℕ). cond (ltb (2 * x) (3 * 2 ^ z)) z (suc e)) (one-less e)
+    ∙ ap (λ (b : Bool). cond b e (suc e)) (false-of (ltb (2 * x) (3 * 2 ^ e)) (λ t. no (2 * x) (3 * 2 ^ e) (ltb→lt (2 * x) (3 * 2 ^ e) t) (scaled-ge x d (2 ^ e) p h)))
+    ∙ more e
+  where
+    no : (a b : ℕ) → a < b → b ≤ a → ⊥
+    no a b h g = omega arith
+
+    more : (e : ℕ) → suc e ≡ e + 1
+    more e = omega arith
+
+-- ---- the rule at 53 digits
+at-places : (x k j d : ℕ) → places x ≡ k → ofBits binary64 (j * 2 ^ 52 + d) ≡ round binary64 false x (2 ^ k) → d < 2 ^ 53 → j ≤ 1022
+    → HasValue (round binary64 false x (2 ^ k)) false (d * 2 ^ j) (2 ^ 1074) → lnOf x ≡ check (rawLn (ofBits binary64 (j * 2 ^ 52 + d)) (ofInt binary64 (minus k 1074)))
+unfolding lnOf
+at-places x k j d p q h g v =
+    ap (λ (i : ℕ). lnSteps (round binary64 false x (2 ^ i)) (minus i 1074)) p
+    ∙ ln-check (round binary64 false x (2 ^ k)) (minus k 1074) (plus-one (round binary64 false x (2 ^ k)) d j h g v)
+    ∙ ap (λ (m : Float). check (rawLn m (ofInt binary64 (minus k 1074)))) (sym q)
+
+pub ln-low : (x d e : ℕ) → PartsOf x d e → d < 3 * 2 ^ 51 → lnOf x ≡ check (rawLn (ofBits binary64 (1022 * 2 ^ 52 + d)) (ofInt binary64 (minus e 1074)))
+ln-low x d e p h =
+    at-places x e 1022 d (places-low x d e (p .0) (p .1) (p .3) h) (m-is x d e 1022 e (p .0) (p .1) (p .3) (omega arith) (omega arith)) (p .1) (omega arith)
+    (m-value x d e 1022 e (p .0) (p .1) (p .3) (omega arith) (omega arith))
+
+pub ln-high : (x d e : ℕ) → PartsOf x d e → 3 * 2 ^ 51 ≤ d → lnOf x ≡ check (rawLn (ofBits binary64 (1021 * 2 ^ 52 + d)) (ofInt binary64 (minus (e + 1) 1074)))
+ln-high x d e p h =
+    at-places x (e + 1) 1021 d (places-high x d e (p .0) (p .1) (p .3) h) (m-is x d e 1021 (e + 1) (p .0) (p .1) (p .3) (omega arith) (omega arith)) (p .1) (omega arith)
+    (m-value x d e 1021 (e + 1) (p .0) (p .1) (p .3) (omega arith) (omega arith))
+
+pub ln-of : (x : Float) → T (positive x) → logarithmRule x ≡ lnOf (inUnits x)
+unfolding logarithmRule
+ln-of x t = let z = above x t in rw (z .2)

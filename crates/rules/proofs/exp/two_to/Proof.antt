@@ -1,0 +1,46 @@
+-- `rules::two_to` meets its contract. Assumes nothing.
+use Prim.Native.Nat.{_+_, _-_, _*_, _^_}
+use mathlib.Core.Path.{_≡_, refl}
+use native.Mathlib.Omega.{arith}
+use Rattle.rules.proofs.Fields.{no-nan-bits}
+use Rattle.rules.proofs.Exps.{two-up, two-neg}
+use borrow.Author.Needs.{needs}
+use Rattle.rules.proofs.exp.two_to.Statement.{statement}
+use Rattle.rules.proofs.exp.two_to.Tie as tie
+
+sub-result : tie.Need-sub-result
+sub-result c = search needs
+
+mul-result : tie.Need-mul-result
+mul-result c = search needs
+
+float-from-bits-result : tie.Need-float-from-bits-result
+float-from-bits-result c = no-nan-bits ((1023 - c .before .args .n) * 2 ^ 52) (omega arith)
+
+add-result : tie.Need-add-result
+add-result c = search needs
+
+mul-result-2 : tie.Need-mul-result-2
+mul-result-2 c = search needs
+
+float-from-bits-result-2 : tie.Need-float-from-bits-result-2
+float-from-bits-result-2 c = no-nan-bits ((1023 + c .before .args .n) * 2 ^ 52) (omega arith)
+
+returns : tie.Need-returns
+returns c = rw (c .if1 .taken) (two-neg (c .before .args .n) (c .before .pre))
+
+returns-2 : tie.Need-returns-2
+returns-2 c = rw (c .if1 .left) (two-up (c .before .args .n) (c .before .pre))
+
+pub two-to-spec : {M : Type 1} → statement M
+two-to-spec =
+    tie.close
+    (tie.spec
+    sub-result
+    mul-result
+    float-from-bits-result
+    add-result
+    mul-result-2
+    float-from-bits-result-2
+    returns
+    returns-2)

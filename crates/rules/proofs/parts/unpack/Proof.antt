@@ -1,0 +1,75 @@
+-- `rules::unpack` meets its contract. Assumes nothing.
+use Prim.Native.Nat.{ℕ, _+_, _-_, _*_, _/_, _%_, _^_, _≤_, _<_}
+use mathlib.Core.Path.{_≡_, refl, sym, subst}
+use native.Mathlib.Nat.{mod-eq-of-lt}
+use native.Mathlib.Omega.{arith}
+use borrow.Author.Needs.{needs}
+use lib.Dec.{T}
+use lib.Count.{leadingZeros}
+use lib.Ieee.{binary64, fits, toBits}
+use Rattle.rules.specs.Units.{inUnits}
+use Rattle.rules.proofs.Fields.{PartsOf, bits-lt, not-nan, zeros, low-bits, parts-0, parts-suc}
+use Rattle.rules.proofs.parts.unpack.Statement.{statement}
+use Rattle.rules.proofs.parts.unpack.Tie as tie
+
+held : (c : tie.Start) → T (fits binary64 (c .args .x))
+held c = subst T (sym (c .good .0 .1)) tt
+
+float-to-bits-b : tie.Need-float-to-bits-b
+float-to-bits-b c = not-nan (c .args .x) (c .pre)
+
+within : (c : tie.Then1) → let b = toBits binary64 (c .before .args .x) in (12 ≤ leadingZeros 64 b) × (leadingZeros 64 b ≤ 63)
+within c =
+    let s = c .before in
+    let l = low-bits (s .args .x) (held s) (s .pre) (c .if1 .taken) in
+    zeros (toBits binary64 (s .args .x)) (l .0) (l .1)
+
+sub-z : tie.Need-sub-z
+sub-z c = omega (arith, within c)
+
+cast-t8 : tie.Need-cast-t8
+cast-t8 c = omega (arith, within c)
+
+shl-t9 : tie.Need-shl-t9
+shl-t9 c = omega (arith, within c)
+
+cast-t10 : tie.Need-cast-t10
+cast-t10 c = omega (arith, within c)
+
+sub-t11 : tie.Need-sub-t11
+sub-t11 c = omega (arith, within c)
+
+add-t13 : tie.Need-add-t13
+add-t13 c = search needs
+
+add-t14 : tie.Need-add-t14
+add-t14 c = omega (arith, bits-lt (c .before .args .x) (held (c .before)) (c .before .pre))
+
+returns : tie.Need-returns
+returns c =
+    let s = c .before in
+    let b = toBits binary64 (s .args .x) in
+    let i = leadingZeros 64 b - 11 in
+    let p = parts-0 (s .args .x) (held s) (s .pre) (c .if1 .taken) in
+    let e : b * 2 ^ i % 2 ^ 64 ≡ b * 2 ^ i = mod-eq-of-lt (omega (arith, p .1)) in
+    subst (λ (d : ℕ). PartsOf (inUnits (s .args .x)) d (52 - i)) (sym e) p
+
+returns-2 : tie.Need-returns-2
+returns-2 c =
+    let s = c .before in
+    parts-suc (s .args .x) (held s) (s .pre) (c .if1 .left)
+
+pub unpack-spec : {M : Type 1} → statement M
+unpack-spec =
+    tie.close
+    (tie.spec
+    float-to-bits-b
+    sub-z
+    cast-t8
+    shl-t9
+    cast-t10
+    sub-t11
+    add-t13
+    add-t14
+    returns
+    returns-2)

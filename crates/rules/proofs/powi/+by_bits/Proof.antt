@@ -1,0 +1,83 @@
+-- The proof of the cycle of calls {by_bits}. The measure is the exponent: its half is less, where that is not 0.
+-- Assumes nothing.
+use mathlib.Core.Path.{_≡_, refl, sym, ap, _∙_}
+use mathlib.Core.Bool.{Bool, true, false}
+use mathlib.Core.Logic.{⊎-elim}
+use Prim.Native.Nat.{ℕ, zero, suc, _/_, _%_, _*_, _^_, _<_}
+use native.Mathlib.Nat.{pow-suc}
+use native.Mathlib.Omega.{arith}
+use lib.Dec.{eqb}
+use lib.Ieee.{Float, binary64, mul}
+use borrow.Author.Tests.{eq-eqb, ne-eqb}
+use borrow.Fn.Kinds.{In}
+use borrow.Fn.PlainCycle.{Measures, is, falls, and}
+use Rattle.rules.specs.Power.{ladder, rungs, times, odd}
+use Rattle.rules.proofs.powi.by_bits.Reads as by-bits
+use Rattle.rules.proofs.powi.by_bits.Kinds as by-bits-kinds
+use Rattle.rules.proofs.powi.+by_bits.Lts-by_bits as by-bits-lts
+use Rattle.rules.proofs.powi.+by_bits.{statement}
+use Rattle.rules.proofs.powi.+by_bits.Tie.{close}
+
+-- no higher bit remains
+last : (k : ℕ) (r a : Float) (n : ℕ) → n / 2 ≡ 0 → ladder k r a n ≡ times (odd n) r a
+unfolding rungs
+last zero r a n h = refl
+last (suc k) r a n h = rw (eq-eqb (n / 2) 0 h)
+
+-- one remains: from its half on
+more : (k : ℕ) (r a out : Float) (n : ℕ) → (n / 2 ≡ 0 → ⊥) → n < 2 ^ suc k → ((j : ℕ) → n / 2 < 2 ^ suc j → out ≡ ladder j (times (odd n) r a) (mul binary64 a a) (n / 2)) → out ≡ ladder k r a n
+unfolding rungs
+more zero r a out n h l e = absurd (h (omega arith))
+more (suc k) r a out n h l e =
+    let half : n / 2 < 2 ^ suc k = let p : 2 ^ suc (suc k) ≡ 2 ^ suc k * 2 = pow-suc 2 (suc k) in omega arith in
+    rw (ne-eqb (n / 2) 0 h) (e k half)
+
+abbrev μ-by-bits : Measures 0 by-bits-kinds.ps ℕ
+μ-by-bits κs a = a .1 .1 .0
+
+abbrev by-bits-at : ℕ → In 0 by-bits-kinds.ps
+by-bits-at t = and 0 by-bits-kinds.ps (is 0 by-bits-kinds.ps μ-by-bits t) by-bits.Pre
+
+abbrev by-bits-below : ℕ → In 0 by-bits-kinds.ps
+by-bits-below t = and 0 by-bits-kinds.ps (falls 0 by-bits-kinds.ps _<_ μ-by-bits t) by-bits.Pre
+
+by-bits-by-bits-requires : (t : ℕ) → by-bits-lts.Need-by-bits-requires (
+  by-bits-below t,
+  by-bits.Post,
+) (by-bits-at t) by-bits.Post
+by-bits-by-bits-requires t c κs = (omega (arith, c .before .before .pre .0), tt)
+
+-- r as the first branch leaves it
+stepped : (t : ℕ) (c : by-bits-lts.Joined1 (by-bits-below t, by-bits.Post) (by-bits-at t) by-bits.Post) →
+    c .if1 .s ≡ times (odd (c .before .args .n)) (c .before .args .r) (c .before .args .a)
+stepped t c =
+    ⊎-elim
+    (λ w. rw (eq-eqb (c .before .args .n % 2) 1 (w .0 .taken)) (w .1))
+    (λ w. rw (ne-eqb (c .before .args .n % 2) 1 (w .0 .left)) (w .1))
+    (c .if1 .came)
+
+by-bits-returns :
+    (t : ℕ) → by-bits-lts.Need-returns (by-bits-below t, by-bits.Post) (by-bits-at t) by-bits.Post
+by-bits-returns t c k l =
+    let a = c .before .before .args in
+    stepped t (c .before) ∙ sym (last k (a .r) (a .a) (a .n) (c .if2 .taken))
+
+by-bits-returns-2 :
+    (t : ℕ) →
+    by-bits-lts.Need-returns-2 (by-bits-below t, by-bits.Post) (by-bits-at t) by-bits.Post
+by-bits-returns-2 t c k l =
+    let a = c .before .before .before .args in
+    more k (a .r) (a .a) (c .by-bits .result) (a .n) (c .before .if2 .left) l
+    (λ j h. c .by-bits .ensures j h ∙ ap (λ (s : Float). ladder j s (mul binary64 (a .a) (a .a)) (a .n / 2)) (stepped t (c .before .before)))
+
+pub +by-bits-spec : {M : Type 1} → statement M
++by-bits-spec =
+    close
+    μ-by-bits
+    λ t. by-bits-lts.spec
+    (by-bits-below t, by-bits.Post)
+    (by-bits-at t)
+    by-bits.Post
+    (by-bits-by-bits-requires t)
+    (by-bits-returns t)
+    (by-bits-returns-2 t)

@@ -1,0 +1,49 @@
+-- `rules::root` meets its contract. Assumes nothing.
+use mathlib.Core.Path.{_≡_, refl, sym, ap, _∙_}
+use mathlib.Core.Logic.{⊎-elim}
+use lib.Ieee.{ofBits}
+use Rattle.common.specs.Outcome.{value}
+use Rattle.rules.specs.Root.{rootRule}
+use Rattle.rules.proofs.Signs.{is-zero, is-negative, is-positive, above, lost}
+use borrow.Author.Needs.{needs}
+use Rattle.rules.proofs.sqrt.root.Statement.{statement}
+use Rattle.rules.proofs.sqrt.root.Tie as tie
+
+is-finite-requires : tie.Need-is-finite-requires
+is-finite-requires c κs = search needs
+
+positive-root-requires : tie.Need-positive-root-requires
+unfolding ofBits
+positive-root-requires c κs = is-positive (c .before .before .before .before .args .x) (cc) (c .before .if2 .left) (c .if3 .left)
+
+returns : tie.Need-returns
+unfolding rootRule ofBits
+returns c =
+    let x = c .before .before .before .args .x in
+    let z = is-zero x (cc) (c .if2 .taken) in
+    rw (z .2)
+
+returns-2 : tie.Need-returns-2
+unfolding rootRule ofBits
+returns-2 c =
+    let x = c .before .before .before .before .args .x in
+    let z = is-negative x (cc) (c .if3 .taken) in
+    rw (z .2)
+
+returns-3 : tie.Need-returns-3
+unfolding rootRule ofBits
+returns-3 c =
+    let x = c .before .before .before .before .before .args .x in
+    let z = above x (is-positive x (cc) (c .before .before .if2 .left) (c .before .if3 .left)) in
+    ap value (c .positive-root .ensures) ∙ rw (z .2)
+
+returns-4 : tie.Need-returns-4
+unfolding rootRule ofBits
+returns-4 c =
+    let x = c .before .before .args .x in
+    ⊎-elim (λ e. rw e) (λ e. rw (e .1)) (lost x (cc))
+
+pub root-spec : {M : Type 1} → statement M
+root-spec =
+    tie.close
+    (tie.spec is-finite-requires positive-root-requires returns returns-2 returns-3 returns-4)

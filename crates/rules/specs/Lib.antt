@@ -1,0 +1,5 @@
+pub mod Power
+pub mod Units
+pub mod Root
+pub mod Log
+pub mod Exp
