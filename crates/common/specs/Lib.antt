@@ -1,4 +1,5 @@
 pub mod Outcome
+pub mod Sum
 pub mod Decimal
 pub mod Range
 pub mod Constant

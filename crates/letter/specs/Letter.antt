@@ -1,0 +1,47 @@
+-- The byte of each letter, and the outcome of a choice. Assumes nothing: these are definitions.
+use Prim.Native.Nat.{ℕ}
+use Rattle.common.specs.Outcome.{Outcome, value, refused}
+use Rattle.common.specs.Answer.{numberOf}
+use Rattle.letter.specs.declared.Letter.{Letter}
+use Rattle.letter.specs.declared.Letter.the-variants as letters
+use Rattle.letter.specs.declared.Choice.{Choice}
+use Rattle.letter.specs.declared.Choice.the-variants.{Taken, Refused}
+
+-- ASCII
+abbrev pub asciiOf : Letter → ℕ
+asciiOf letters.A = 97
+asciiOf letters.B = 98
+asciiOf letters.C = 99
+asciiOf letters.D = 100
+asciiOf letters.E = 101
+asciiOf letters.F = 102
+asciiOf letters.G = 103
+asciiOf letters.H = 104
+asciiOf letters.I = 105
+asciiOf letters.J = 106
+asciiOf letters.K = 107
+asciiOf letters.L = 108
+asciiOf letters.M = 109
+asciiOf letters.N = 110
+asciiOf letters.O = 111
+asciiOf letters.P = 112
+asciiOf letters.Q = 113
+asciiOf letters.R = 114
+asciiOf letters.S = 115
+asciiOf letters.T = 116
+asciiOf letters.U = 117
+asciiOf letters.«V» = 118
+asciiOf letters.W = 119
+asciiOf letters.X = 120
+asciiOf letters.Y = 121
+asciiOf letters.Z = 122
+
+-- the paper's number and value for each case of a choice
+abbrev pub chosen : Choice → Outcome Letter
+chosen (Taken l) = value l
+chosen (Refused k) = refused (numberOf k)
+
+-- a refused call has no letter
+abbrev pub byteIn : Outcome Letter → ℕ
+byteIn (value l) = asciiOf l
+byteIn (refused k) = 0
