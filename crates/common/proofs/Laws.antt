@@ -5,7 +5,7 @@ use mathlib.Core.Bool.{Bool, true, false, cond, Bool·beq}
 use Prim.Native.Nat.{ℕ}
 use lib.Dec.{T, eqb}
 use lib.Ieee.{Float, nan, inf, fin, binary64, add, sub, neg, mul, div, unlike}
-use Rattle.common.specs.Outcome.{Outcome, value, refused, finite, check, then, inside}
+use Rattle.common.specs.Outcome.{Outcome, value, refused, finite, check, then, inside, orNan}
 
 abbrev pub Lost : Float → Type 0
 Lost x = finite x ≡ false
@@ -102,3 +102,14 @@ next (fin s m e) f o ok bad = ok refl
 -- the same at the check of g x, where g loses what is lost
 pub step : (x : Float) (f : Float → Outcome Float) (g : Float → Float) → (finite x ≡ true → f x ≡ check (g x)) → (Lost x → Lost (g x)) → then (check x) f ≡ check (g x)
 step x f g ok bad = next x f (check (g x)) ok (λ l. check-lost (g x) (bad l))
+
+-- ---- the raw form of a rule: its number, or a NaN where it is refused
+
+-- so a layer above may go on with the raw form and check once, where the rule is in the end a check
+pub raw-inside : (o : Outcome Float) (x : Float) → o ≡ check x → check (orNan o) ≡ inside o
+raw-inside o x e = rw e (checked x)
+  where
+    checked : (x : Float) → check (orNan (check x)) ≡ inside (check x)
+    checked nan = refl
+    checked (inf s) = refl
+    checked (fin s m e) = refl

@@ -18,6 +18,22 @@ use Rattle.common.proofs.check_only.Kinds as check-only-kinds
 use Rattle.common.proofs.check_only.Reads as check-only
 use Rattle.common.proofs.check_pair.Kinds as check-pair-kinds
 use Rattle.common.proofs.check_pair.Reads as check-pair
+use Rattle.common.proofs.in_p.Kinds as in-p-kinds
+use Rattle.common.proofs.in_p.Reads as in-p
+use Rattle.common.proofs.in_t.Kinds as in-t-kinds
+use Rattle.common.proofs.in_t.Reads as in-t
+use Rattle.common.proofs.in_d.Kinds as in-d-kinds
+use Rattle.common.proofs.in_d.Reads as in-d
+use Rattle.common.proofs.check_Td.Kinds as check-Td-kinds
+use Rattle.common.proofs.check_Td.Reads as check-Td
+use Rattle.common.proofs.check_pT.Kinds as check-pT-kinds
+use Rattle.common.proofs.check_pT.Reads as check-pT
+use Rattle.common.proofs.check_ph.Kinds as check-ph-kinds
+use Rattle.common.proofs.check_ph.Reads as check-ph
+use Rattle.common.proofs.check_ps.Kinds as check-ps-kinds
+use Rattle.common.proofs.check_ps.Reads as check-ps
+use Rattle.common.proofs.check_hs.Kinds as check-hs-kinds
+use Rattle.common.proofs.check_hs.Reads as check-hs
 
 pub constants-one : One 0 constants-kinds.ps constants-kinds.r constants.Post
 constants-one κs a e x y p q = p ∙ sym q
@@ -42,3 +58,27 @@ check-only-one κs a e x y p q = same-verdict _ x y p q
 
 pub check-pair-one : One 0 check-pair-kinds.ps check-pair-kinds.r check-pair.Post
 check-pair-one κs a e x y p q = same-verdict _ x y p q
+
+pub in-p-one : One 0 in-p-kinds.ps in-p-kinds.r in-p.Post
+in-p-one κs a e x y p q = p ∙ sym q
+
+pub in-t-one : One 0 in-t-kinds.ps in-t-kinds.r in-t.Post
+in-t-one κs a e x y p q = p ∙ sym q
+
+pub in-d-one : One 0 in-d-kinds.ps in-d-kinds.r in-d.Post
+in-d-one κs a e x y p q = p ∙ sym q
+
+pub check-Td-one : One 0 check-Td-kinds.ps check-Td-kinds.r check-Td.Post
+check-Td-one κs a e x y p q = same-verdict _ x y p q
+
+pub check-pT-one : One 0 check-pT-kinds.ps check-pT-kinds.r check-pT.Post
+check-pT-one κs a e x y p q = same-verdict _ x y p q
+
+pub check-ph-one : One 0 check-ph-kinds.ps check-ph-kinds.r check-ph.Post
+check-ph-one κs a e x y p q = same-verdict _ x y p q
+
+pub check-ps-one : One 0 check-ps-kinds.ps check-ps-kinds.r check-ps.Post
+check-ps-one κs a e x y p q = same-verdict _ x y p q
+
+pub check-hs-one : One 0 check-hs-kinds.ps check-hs-kinds.r check-hs.Post
+check-hs-one κs a e x y p q = same-verdict _ x y p q

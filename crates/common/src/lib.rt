@@ -4,7 +4,7 @@ ghost use mathlib.Core.Path.{_≡_};
 ghost use Rattle.common.specs.Outcome.{finite, check, orNan};
 ghost use Rattle.common.specs.Answer.{numberOf, paper, verdict};
 ghost use Rattle.common.specs.Range.{within, onlyRule, pairRule};
-ghost use Rattle.common.specs.Constant.{printed};
+ghost use Rattle.common.specs.Constant.{printed, P-FROM, P-TO, T-FROM, T-TO, D-FROM, D-TO, H-FROM, H-TO, S-FROM, S-TO};
 
 // A pressure.
 pub struct MPa(pub f64);
@@ -46,55 +46,96 @@ pub enum Verdict {
 
 // The box: both ends of each range count as inside.
 pub const P_FROM: f64 = 16.529;
+
 pub const P_TO: f64 = 100.0;
+
 pub const T_FROM: f64 = 623.15;
+
 pub const T_TO: f64 = 863.15;
+
 pub const D_FROM: f64 = 100.0;
+
 pub const D_TO: f64 = 800.0;
+
 pub const H_FROM: f64 = 1500.0;
+
 pub const H_TO: f64 = 2900.0;
+
 pub const S_FROM: f64 = 3.3;
+
 pub const S_TO: f64 = 5.3;
 
 // Where p and T end on the saturation line.
 pub const P_MAX4: f64 = 22.064;
+
 pub const T_MAX4: f64 = 647.096;
 
 // common/constant.rs
 pub const P_TOL: f64 = 1.0e-15;
+
 pub const T_TOL: f64 = 1.0e-5;
+
 pub const RGAS_WATER: f64 = 0.461526;
+
 pub const TC_WATER: f64 = 647.096;
+
 pub const PC_WATER: f64 = 22.064;
+
 pub const DC_WATER: f64 = 322.0;
+
 pub const SC_WATER: f64 = 4.41202148223476;
+
 pub const TT: f64 = 273.16;
 
 // common/property_id.rs: the 25 numbers of the properties at a (T,d).
 pub const OP: i32 = 0;
+
 pub const OV: i32 = 3;
+
 pub const OH: i32 = 4;
+
 pub const OS: i32 = 5;
+
 pub const OE: i32 = 6;
+
 pub const OU: i32 = 7;
+
 pub const OCP: i32 = 8;
+
 pub const OCV: i32 = 9;
+
 pub const OW: i32 = 10;
+
 pub const OKS: i32 = 11;
+
 pub const OF: i32 = 12;
+
 pub const OG: i32 = 13;
+
 pub const OZ: i32 = 14;
+
 pub const OEC: i32 = 17;
+
 pub const OKT: i32 = 18;
+
 pub const ODVDT: i32 = 19;
+
 pub const ODVDP: i32 = 20;
+
 pub const ODPDT: i32 = 21;
+
 pub const OIJTC: i32 = 22;
+
 pub const OJTC: i32 = 23;
+
 pub const OPC: i32 = 31;
+
 pub const OBETAP: i32 = 32;
+
 pub const OFI: i32 = 33;
+
 pub const OFU: i32 = 34;
+
 pub const OALFAP: i32 = 35;
 
 // The ranges' ends and the constants, in the order of specs/Constant.antt: its contract is the one test that each literal is its decimal.
@@ -102,8 +143,26 @@ pub fn constants() -> [f64; 20]
     ensures { λ r. ⌜ r ≡ printed ⌝ }
 {
     [
-        P_FROM, P_TO, T_FROM, T_TO, D_FROM, D_TO, H_FROM, H_TO, S_FROM, S_TO, P_MAX4, T_MAX4,
-        P_TOL, T_TOL, RGAS_WATER, TC_WATER, PC_WATER, DC_WATER, SC_WATER, TT,
+        P_FROM,
+        P_TO,
+        T_FROM,
+        T_TO,
+        D_FROM,
+        D_TO,
+        H_FROM,
+        H_TO,
+        S_FROM,
+        S_TO,
+        P_MAX4,
+        T_MAX4,
+        P_TOL,
+        T_TOL,
+        RGAS_WATER,
+        TC_WATER,
+        PC_WATER,
+        DC_WATER,
+        SC_WATER,
+        TT,
     ]
 }
 
@@ -185,4 +244,54 @@ pub fn check_pair(x: f64, x_from: f64, x_to: f64, y: f64, y_from: f64, y_to: f64
         }
     }
     Verdict::Refused(Refusal::NotFinite)
+}
+
+// A p, T or d of the state is in its range: number 4 otherwise.
+pub fn in_p(p: MPa) -> bool
+    ensures { λ r. ⌜ r ≡ within P-FROM P-TO (p .0) ⌝ }
+{
+    ranged(p.0, P_FROM, P_TO)
+}
+
+pub fn in_t(t: Kelvin) -> bool
+    ensures { λ r. ⌜ r ≡ within T-FROM T-TO (t .0) ⌝ }
+{
+    ranged(t.0, T_FROM, T_TO)
+}
+
+pub fn in_d(d: KgPerM3) -> bool
+    ensures { λ r. ⌜ r ≡ within D-FROM D-TO (d .0) ⌝ }
+{
+    ranged(d.0, D_FROM, D_TO)
+}
+
+// The checks of the five pairs.
+pub fn check_Td(t: Kelvin, d: KgPerM3) -> Verdict
+    ensures { λ r. ⌜ verdict r ≡ pairRule T-FROM T-TO (t .0) D-FROM D-TO (d .0) ⌝ }
+{
+    check_pair(t.0, T_FROM, T_TO, d.0, D_FROM, D_TO)
+}
+
+pub fn check_pT(p: MPa, t: Kelvin) -> Verdict
+    ensures { λ r. ⌜ verdict r ≡ pairRule P-FROM P-TO (p .0) T-FROM T-TO (t .0) ⌝ }
+{
+    check_pair(p.0, P_FROM, P_TO, t.0, T_FROM, T_TO)
+}
+
+pub fn check_ph(p: MPa, h: KJPerKg) -> Verdict
+    ensures { λ r. ⌜ verdict r ≡ pairRule P-FROM P-TO (p .0) H-FROM H-TO (h .0) ⌝ }
+{
+    check_pair(p.0, P_FROM, P_TO, h.0, H_FROM, H_TO)
+}
+
+pub fn check_ps(p: MPa, s: KJPerKgK) -> Verdict
+    ensures { λ r. ⌜ verdict r ≡ pairRule P-FROM P-TO (p .0) S-FROM S-TO (s .0) ⌝ }
+{
+    check_pair(p.0, P_FROM, P_TO, s.0, S_FROM, S_TO)
+}
+
+pub fn check_hs(h: KJPerKg, s: KJPerKgK) -> Verdict
+    ensures { λ r. ⌜ verdict r ≡ pairRule H-FROM H-TO (h .0) S-FROM S-TO (s .0) ⌝ }
+{
+    check_pair(h.0, H_FROM, H_TO, s.0, S_FROM, S_TO)
 }

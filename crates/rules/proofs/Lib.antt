@@ -9,3 +9,5 @@ pub mod Logs
 pub mod Exps
 pub mod Meaning
 pub mod Points
+pub mod Raw
+pub mod Unique

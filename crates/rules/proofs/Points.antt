@@ -33,21 +33,29 @@ wanted (c gives o) = o
 abbrev whole : ℕ → Float
 whole n = round binary64 false n 1
 
--- the four starred points, and then: root of -1 is refused with 5, the roots of 4, 2 and the smallest number, -0, ln of 0 refused with 5, exp of 701 with 2
+-- the four starred points; then the refusals, the signs of 0, and exact and inexact roots, the smallest number's among them
 pub points : List Point
 unfolding round neg
 points =
-    (ln (whole 1) gives value (whole 0))
-    ∷ (exp (whole 0) gives value (whole 1))
-    ∷ (power (whole 2) (negsuc 2) gives value (round binary64 false 125 1000))
+    (power (whole 2) (negsuc 2) gives value (round binary64 false 125 1000))
     ∷ (power (whole 0) (pos 0) gives value (whole 1))
+    ∷ (ln (whole 1) gives value (whole 0))
+    ∷ (exp (whole 0) gives value (whole 1))
+    ∷ (power (whole 2) (pos 65) gives refused 3)
+    ∷ (power nan (pos 65) gives refused 1)
+    ∷ (power (whole 0) (negsuc 0) gives refused 5)
+    ∷ (root nan gives refused 1)
     ∷ (root (neg (whole 1)) gives refused 5)
+    ∷ (root (neg (whole 0)) gives value (neg (whole 0)))
     ∷ (root (whole 4) gives value (whole 2))
     ∷ (root (whole 2) gives value (round binary64 false 14142135623730951 (10000000000000000)))
     ∷ (root (fin false 1 (negsuc 1073)) gives value (fin false 1 (negsuc 536)))
-    ∷ (root (neg (whole 0)) gives value (neg (whole 0)))
+    ∷ (ln nan gives refused 1)
     ∷ (ln (whole 0) gives refused 5)
+    ∷ (ln (neg (whole 1)) gives refused 5)
+    ∷ (exp (inf false) gives refused 1)
     ∷ (exp (whole 701) gives refused 2)
+    ∷ (exp (neg (whole 701)) gives refused 2)
     ∷ []
 
 pub points-hold : map got points ≡ map wanted points

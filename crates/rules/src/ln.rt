@@ -1,10 +1,10 @@
 // ln x by a series in (m-1)/(m+1), with x = m * 2^e.
+use crate::parts::unpack;
 use common::Answer;
 use common::Refusal;
 use common::is_finite;
 use common::or_nan;
 use common::settle;
-use crate::parts::unpack;
 ghost use mathlib.Core.Path.{_≡_};
 ghost use Prim.Native.Nat.{_^_, _<_};
 ghost use lib.Ieee.{binary64, ofInt, minus};

@@ -1,10 +1,10 @@
 // The f64 nearest the exact root: proposed by float steps, proved by an exact test on whole numbers, and by digits one by one where
 // the test says no.
+use crate::parts::unpack;
 use common::Answer;
 use common::Refusal;
 use common::is_finite;
 use common::or_nan;
-use crate::parts::unpack;
 ghost use mathlib.Core.Path.{_≡_};
 ghost use Prim.Native.Nat.{_+_, _*_, _^_, _<_, _≤_};
 ghost use lib.Dec.{T};

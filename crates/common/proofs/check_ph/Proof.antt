@@ -1,0 +1,16 @@
+-- `common::check_ph` meets its contract: its literals are the range's decimals. Assumes nothing.
+use lib.Ieee.{ofBits}
+use Rattle.common.specs.Decimal.{decimal, whole, scaled}
+use borrow.Author.Needs.{needs}
+use Rattle.common.proofs.check_ph.Statement.{statement}
+use Rattle.common.proofs.check_ph.Tie as tie
+
+check-pair-requires : tie.Need-check-pair-requires
+check-pair-requires c κs = search needs
+
+returns : tie.Need-returns
+unfolding ofBits decimal whole scaled
+returns c = c .check-pair .ensures
+
+pub check-ph-spec : {M : Type 1} → statement M
+check-ph-spec = tie.close (tie.spec check-pair-requires returns)
