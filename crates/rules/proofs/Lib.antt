@@ -10,4 +10,5 @@ pub mod Exps
 pub mod Meaning
 pub mod Points
 pub mod Raw
+pub mod Formulas
 pub mod Unique

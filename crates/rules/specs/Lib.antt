@@ -3,3 +3,4 @@ pub mod Units
 pub mod Root
 pub mod Log
 pub mod Exp
+pub mod Formula
