@@ -1,4 +1,5 @@
 pub mod Laws
 pub mod Sums
+pub mod Calls
 pub mod Same
 pub mod Unique

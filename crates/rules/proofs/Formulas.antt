@@ -103,7 +103,25 @@ power-tied x n false small ef es = rw ef
 power-tied x n true false ef es = rw (ef, es)
 power-tied x n true true ef es = raw-inside (powerRule x n) (rawPower x n) (power-check x n ef es)
 
+-- the left operand is taken as it is, and no step has checked it
+module _ {q : Outcome Float} {s : Float} where
+  raw-from : (f : Float → Float → Float) → ((x y : Float) → Lost y → Lost (f x y)) → (x : Float) → Raw q s → Raw (worked f (value x) q) (f x s)
+  raw-from f right x t = record { is = rw (t .is) (next s _ (check (f x s)) (λ _. refl) (λ l. check-lost (f x s) (right x s l))) }
+
+  pub raw-add-from : (x : Float) → Raw q s → Raw (value x ⊕ q) (add binary64 x s)
+  raw-add-from = raw-from (add binary64) add-right
+
+  pub raw-sub-from : (x : Float) → Raw q s → Raw (value x ⊖ q) (sub binary64 x s)
+  raw-sub-from = raw-from (sub binary64) sub-right
+
+pub raw-root-from : (x : Float) → T (fits binary64 x) → Raw (rootOf (value x)) (orNan (rootRule x))
+raw-root-from x f = record { is = sym (raw.raw-root x f) }
+
 module _ {o : Outcome Float} {r : Float} where
+  -- the same number by another name, as a call's contract gives it
+  pub named : {s : Float} → s ≡ r → Raw o r → Raw o s
+  named e p = record { is = rw e (p .is) }
+
   pub raw-minus : Raw o r → Raw (minusOf o) (neg r)
   raw-minus p = record { is = rw (p .is) (neg-check r) }
 

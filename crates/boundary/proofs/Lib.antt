@@ -1,0 +1,5 @@
+pub mod Boundaries
+pub mod Tests
+pub mod Limit
+pub mod Points
+pub mod Unique

@@ -1,0 +1,49 @@
+-- `boundary::bands::band_ab` meets its contract. Assumes nothing.
+use mathlib.Core.Path.{_≡_, refl}
+use mathlib.Core.List.{[], _∷_}
+use Rattle.common.specs.Outcome.{value, refused, finite, pick}
+use Rattle.common.specs.Sum.{every}
+use Rattle.boundary.specs.Choice.{abRule, abBy}
+use Rattle.boundary.proofs.Tests.{gate}
+use borrow.Author.Needs.{needs}
+use Rattle.boundary.proofs.bands.band_ab.Statement.{statement}
+use Rattle.boundary.proofs.bands.band_ab.Tie as tie
+
+raw-boundary-requires : tie.Need-raw-boundary-requires
+raw-boundary-requires c κs = search needs
+
+slice-aggregate-all-finite : tie.Need-slice-aggregate-all-finite
+slice-aggregate-all-finite c = search needs
+
+all-finite-requires : tie.Need-all-finite-requires
+all-finite-requires c κs = search needs
+
+by-ab-requires : tie.Need-by-ab-requires
+by-ab-requires c κs = search needs
+
+-- the band's letter, if none of its boundaries is lost
+whole : (c : tie.After-all-finite) →
+    let tab = c .before .before .raw-boundary .result in
+    let a = c .before .before .before .args in
+    abRule (a .p) (a .t) ≡ pick (every finite (tab ∷ [])) (value (abBy tab (a .t))) (refused 5)
+unfolding abRule every
+whole c =
+    let tab = c .before .before .raw-boundary .result in
+    rw (← c .before .before .raw-boundary .ensures) (gate tab _ _ _ refl)
+
+returns : tie.Need-returns
+returns c = rw (c .by-ab .ensures, whole (c .before .before), ← c .before .before .all-finite .ensures, c .before .if1 .taken)
+
+returns-2 : tie.Need-returns-2
+returns-2 c = rw (whole (c .before), ← c .before .all-finite .ensures, c .if1 .left)
+
+pub band-ab-spec : {M : Type 1} → statement M
+band-ab-spec =
+    tie.close
+    (tie.spec
+    raw-boundary-requires
+    slice-aggregate-all-finite
+    all-finite-requires
+    by-ab-requires
+    returns
+    returns-2)

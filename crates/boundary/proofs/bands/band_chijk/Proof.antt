@@ -1,0 +1,73 @@
+-- `boundary::bands::band_chijk` meets its contract. Assumes nothing.
+use mathlib.Core.Path.{_≡_, refl}
+use mathlib.Core.List.{[], _∷_}
+use Rattle.common.specs.Outcome.{value, refused, finite, pick}
+use Rattle.common.specs.Sum.{every}
+use Rattle.boundary.specs.Choice.{chijkRule, chijkBy}
+use Rattle.boundary.proofs.Tests.{gate}
+use borrow.Author.Needs.{needs}
+use Rattle.boundary.proofs.bands.band_chijk.Statement.{statement}
+use Rattle.boundary.proofs.bands.band_chijk.Tie as tie
+
+raw-boundary-requires : tie.Need-raw-boundary-requires
+raw-boundary-requires c κs = search needs
+
+raw-boundary-requires-2 : tie.Need-raw-boundary-requires-2
+raw-boundary-requires-2 c κs = search needs
+
+raw-boundary-requires-3 : tie.Need-raw-boundary-requires-3
+raw-boundary-requires-3 c κs = search needs
+
+raw-boundary-requires-4 : tie.Need-raw-boundary-requires-4
+raw-boundary-requires-4 c κs = search needs
+
+raw-boundary-requires-5 : tie.Need-raw-boundary-requires-5
+raw-boundary-requires-5 c κs = search needs
+
+slice-aggregate-all-finite : tie.Need-slice-aggregate-all-finite
+slice-aggregate-all-finite c = search needs
+
+all-finite-requires : tie.Need-all-finite-requires
+all-finite-requires c κs = search needs
+
+by-chijk-requires : tie.Need-by-chijk-requires
+by-chijk-requires c κs = search needs
+
+-- the band's letter, if none of its boundaries is lost
+whole : (c : tie.After-all-finite) →
+    let tcd = c .before .before .before .before .before .before .raw-boundary .result in
+    let tef = c .before .before .before .before .before .raw-boundary2 .result in
+    let tgh = c .before .before .before .before .raw-boundary3 .result in
+    let tij = c .before .before .before .raw-boundary4 .result in
+    let tjk = c .before .before .raw-boundary5 .result in
+    let a = c .before .before .before .before .before .before .before .args in
+    chijkRule (a .second) (a .p) (a .t) ≡ pick (every finite (tcd ∷ tef ∷ tgh ∷ tij ∷ tjk ∷ [])) (value (chijkBy (a .second) tcd tgh tef tij tjk (a .t))) (refused 5)
+unfolding chijkRule every
+whole c =
+    let tcd = c .before .before .before .before .before .before .raw-boundary .result in
+    let tef = c .before .before .before .before .before .raw-boundary2 .result in
+    let tgh = c .before .before .before .before .raw-boundary3 .result in
+    let tij = c .before .before .before .raw-boundary4 .result in
+    let tjk = c .before .before .raw-boundary5 .result in
+    rw (← c .before .before .before .before .before .before .raw-boundary .ensures, ← c .before .before .before .before .before .raw-boundary2 .ensures, ← c .before .before .before .before .raw-boundary3 .ensures, ← c .before .before .before .raw-boundary4 .ensures, ← c .before .before .raw-boundary5 .ensures) (gate tcd _ _ _ (gate tef _ _ _ (gate tgh _ _ _ (gate tij _ _ _ (gate tjk _ _ _ refl)))))
+
+returns : tie.Need-returns
+returns c = rw (c .by-chijk .ensures, whole (c .before .before), ← c .before .before .all-finite .ensures, c .before .if1 .taken)
+
+returns-2 : tie.Need-returns-2
+returns-2 c = rw (whole (c .before), ← c .before .all-finite .ensures, c .if1 .left)
+
+pub band-chijk-spec : {M : Type 1} → statement M
+band-chijk-spec =
+    tie.close
+    (tie.spec
+    raw-boundary-requires
+    raw-boundary-requires-2
+    raw-boundary-requires-3
+    raw-boundary-requires-4
+    raw-boundary-requires-5
+    slice-aggregate-all-finite
+    all-finite-requires
+    by-chijk-requires
+    returns
+    returns-2)

@@ -1,0 +1,103 @@
+-- `boundary::bands::letter_at` meets its contract: each return rewrites the choice of a band with the tests that led there. Assumes nothing.
+use lib.Ieee.{ofBits, round}
+use Rattle.common.specs.Decimal.{decimal, whole, scaled}
+use Rattle.boundary.specs.Choice.{letterAt}
+use Rattle.boundary.proofs.Limit.{limit-is}
+use borrow.Author.Needs.{needs}
+use Rattle.boundary.proofs.bands.letter_at.Statement.{statement}
+use Rattle.boundary.proofs.bands.letter_at.Tie as tie
+
+band-ab-requires : tie.Need-band-ab-requires
+band-ab-requires c κs = search needs
+
+returns : tie.Need-returns
+unfolding letterAt decimal whole scaled round ofBits
+returns c = rw (limit-is, c .before .before .if1 .taken, c .before .if2 .taken) (c .band-ab .ensures)
+
+band-cdef-requires : tie.Need-band-cdef-requires
+band-cdef-requires c κs = search needs
+
+returns-2 : tie.Need-returns-2
+unfolding letterAt decimal whole scaled round ofBits
+returns-2 c = rw (limit-is, c .before .before .if1 .taken, c .before .if2 .left) (c .band-cdef .ensures)
+
+band-cdef-requires-2 : tie.Need-band-cdef-requires-2
+band-cdef-requires-2 c κs = search needs
+
+returns-3 : tie.Need-returns-3
+unfolding letterAt decimal whole scaled round ofBits
+returns-3 c = rw (limit-is, c .before .before .if1 .left, c .before .if3 .taken) (c .band-cdef2 .ensures)
+
+band-chijk-requires : tie.Need-band-chijk-requires
+band-chijk-requires c κs = search needs
+
+returns-4 : tie.Need-returns-4
+unfolding letterAt decimal whole scaled round ofBits
+returns-4 c = rw (limit-is, c .before .before .before .if1 .left, c .before .before .if3 .left, c .before .if4 .taken) (c .band-chijk .ensures)
+
+band-chijk-requires-2 : tie.Need-band-chijk-requires-2
+band-chijk-requires-2 c κs = search needs
+
+returns-5 : tie.Need-returns-5
+unfolding letterAt decimal whole scaled round ofBits
+returns-5 c = rw (limit-is, c .before .before .before .before .if1 .left, c .before .before .before .if3 .left, c .before .before .if4 .left, c .before .if5 .taken) (c .band-chijk2 .ensures)
+
+band-clmnopjk-requires : tie.Need-band-clmnopjk-requires
+band-clmnopjk-requires c κs = search needs
+
+returns-6 : tie.Need-returns-6
+unfolding letterAt decimal whole scaled round ofBits
+returns-6 c = rw (limit-is, c .before .before .before .before .before .if1 .left, c .before .before .before .before .if3 .left, c .before .before .before .if4 .left, c .before .before .if5 .left, c .before .if6 .taken) (c .band-clmnopjk .ensures)
+
+band-cq-rk-requires : tie.Need-band-cq-rk-requires
+band-cq-rk-requires c κs = search needs
+
+returns-7 : tie.Need-returns-7
+unfolding letterAt decimal whole scaled round ofBits
+returns-7 c = rw (limit-is, c .before .before .before .before .before .before .if1 .left, c .before .before .before .before .before .if3 .left, c .before .before .before .before .if4 .left, c .before .before .before .if5 .left, c .before .before .if6 .left, c .before .if7 .taken) (c .band-cq-rk .ensures)
+
+band-csrk-requires : tie.Need-band-csrk-requires
+band-csrk-requires c κs = search needs
+
+returns-8 : tie.Need-returns-8
+unfolding letterAt decimal whole scaled round ofBits
+returns-8 c = rw (limit-is, c .before .before .before .before .before .before .before .if1 .left, c .before .before .before .before .before .before .if3 .left, c .before .before .before .before .before .if4 .left, c .before .before .before .before .if5 .left, c .before .before .before .if6 .left, c .before .before .if7 .left, c .before .if8 .taken) (c .band-csrk .ensures)
+
+band-cst-requires : tie.Need-band-cst-requires
+band-cst-requires c κs = search needs
+
+returns-9 : tie.Need-returns-9
+unfolding letterAt decimal whole scaled round ofBits
+returns-9 c = rw (limit-is, c .before .before .before .before .before .before .before .before .if1 .left, c .before .before .before .before .before .before .before .if3 .left, c .before .before .before .before .before .before .if4 .left, c .before .before .before .before .before .if5 .left, c .before .before .before .before .if6 .left, c .before .before .before .if7 .left, c .before .before .if8 .left, c .before .if9 .taken) (c .band-cst .ensures)
+
+band-ct-requires : tie.Need-band-ct-requires
+band-ct-requires c κs = search needs
+
+returns-10 : tie.Need-returns-10
+unfolding letterAt decimal whole scaled round ofBits
+returns-10 c = rw (limit-is, c .before .before .before .before .before .before .before .before .if1 .left, c .before .before .before .before .before .before .before .if3 .left, c .before .before .before .before .before .before .if4 .left, c .before .before .before .before .before .if5 .left, c .before .before .before .before .if6 .left, c .before .before .before .if7 .left, c .before .before .if8 .left, c .before .if9 .left) (c .band-ct .ensures)
+
+pub letter-at-spec : {M : Type 1} → statement M
+letter-at-spec =
+    tie.close
+    (tie.spec
+    band-ab-requires
+    returns
+    band-cdef-requires
+    returns-2
+    band-cdef-requires-2
+    returns-3
+    band-chijk-requires
+    returns-4
+    band-chijk-requires-2
+    returns-5
+    band-clmnopjk-requires
+    returns-6
+    band-cq-rk-requires
+    returns-7
+    band-csrk-requires
+    returns-8
+    band-cst-requires
+    returns-9
+    band-ct-requires
+    returns-10)
