@@ -1,0 +1,4 @@
+pub mod Laws
+pub mod Cut
+pub mod Unique
+pub mod Example

@@ -1,0 +1,39 @@
+-- `rows::last_line` meets its contract. Assumes nothing.
+use mathlib.Core.Path.{subst}
+use Prim.Native.Nat.{ℕ, _+_, _*_, _-_}
+use lib.ListN.{length}
+use borrow.Author.Needs.{needs}
+use Rattle.rows.specs.Lines.{lastLine, Wrote}
+use Rattle.rows.proofs.last_line.Statement.{statement}
+use Rattle.rows.proofs.last_line.Tie as tie
+
+rows-in-requires : tie.Need-rows-in-requires
+rows-in-requires c κs = search needs
+
+add-put-last : tie.Need-add-put-last
+add-put-last c = search needs
+
+mul-put-last : tie.Need-mul-put-last
+mul-put-last c = search needs
+
+sub-put-last : tie.Need-sub-put-last
+sub-put-last c = search needs
+
+put-last-requires : tie.Need-put-last-requires
+put-last-requires c κs = search needs
+
+returns : tie.Need-returns
+returns c =
+    let n = c .before .before in
+    let a = n .before .before .args in (
+      subst
+          (λ (k : ℕ). Wrote (a .lines .now) 0 (lastLine (a .done + k) (length (a .bytes .now) - 16 * k)) (c .put-last .last .1 .1 .0) (c .put-last .result))
+          (n .rows-in .ensures)
+          (c .put-last .ensures .0),
+      c .put-last .ensures .1,
+    )
+
+pub last-line-spec : {M : Type 1} → statement M
+last-line-spec =
+    tie.close
+    (tie.spec rows-in-requires add-put-last mul-put-last sub-put-last put-last-requires returns)

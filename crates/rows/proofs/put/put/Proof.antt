@@ -1,0 +1,77 @@
+-- `rows::put::put` meets its contract. Assumes nothing.
+use mathlib.Core.Path.{_≡_, refl, ap, _∙_}
+use mathlib.Core.List.{List}
+use Prim.Native.Nat.{ℕ, _+_, _-_, _≤_}
+use native.Mathlib.Omega.{arith}
+use native.Mathlib.Nat.{le-antisymm}
+use lib.ListN.{length, take, getD, set, length-set}
+use lib.Seq.{sets, take-all}
+use Rattle.rows.proofs.Laws.{copied-more}
+use Rattle.rows.proofs.put.put.Statement.{statement}
+use Rattle.rows.proofs.put.put.Tie as tie
+
+abbrev Inv-loop : tie.InvT-loop
+Inv-loop out₀ at src i₀ out i = (i ≤ length src) × (length out ≡ length out₀) × (out ≡ sets out₀ at (take i src))
+
+abbrev μ-loop : tie.MeasureT-loop
+μ-loop out₀ at src i₀ out i = length src - i
+
+loop-holds : tie.Need-loop-holds Inv-loop μ-loop
+loop-holds c = (omega arith, refl, refl)
+
+shared-slice-read-out : tie.Need-shared-slice-read-out Inv-loop μ-loop
+shared-slice-read-out c = omega arith
+
+add-out : tie.Need-add-out Inv-loop μ-loop
+add-out c = omega arith
+
+slice-write-out : tie.Need-slice-write-out Inv-loop μ-loop
+slice-write-out c = omega arith
+
+add-i : tie.Need-add-i Inv-loop μ-loop
+add-i c = omega arith
+
+loop-less : tie.Need-loop-less Inv-loop μ-loop
+loop-less c = omega arith
+
+loop-again : tie.Need-loop-again Inv-loop μ-loop
+loop-again c =
+    let l = c .before .before in
+    let a = l .before .args in (
+      omega arith,
+      length-set (l .loop .out) (a .at + l .loop .i) (getD (a .src .now) (l .loop .i) 0) ∙ l .loop .inv .1,
+      ap (λ (xs : List ℕ). set xs (a .at + l .loop .i) (getD (a .src .now) (l .loop .i) 0)) (l .loop .inv .2)
+          ∙ copied-more (a .out .now) (a .at) (a .src .now) (l .loop .i) (omega arith),
+    )
+
+add-result : tie.Need-add-result Inv-loop μ-loop
+add-result c = omega arith
+
+same-length : tie.Need-same-length Inv-loop μ-loop
+same-length c = c .before .loop .inv .1
+
+returns : tie.Need-returns Inv-loop μ-loop
+returns c =
+    let l = c .before in
+    let a = l .before .args in
+    record {
+      ends = ap (λ (k : ℕ). a .at + k) (le-antisymm (l .loop .inv .0) (c .loop-test .left));
+      holds = l .loop .inv .2 ∙ ap (λ (xs : List ℕ). sets (a .out .now) (a .at) xs) (take-all (l .loop .i) (a .src .now) (c .loop-test .left));
+    }
+
+pub put-spec : {M : Type 1} → statement M
+put-spec =
+    tie.close
+    (tie.spec
+    Inv-loop
+    μ-loop
+    loop-holds
+    shared-slice-read-out
+    add-out
+    slice-write-out
+    add-i
+    loop-less
+    loop-again
+    add-result
+    same-length
+    returns)

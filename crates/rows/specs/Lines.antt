@@ -1,0 +1,112 @@
+-- What `letters` reads and writes, byte by byte (document 01, "Columns and the letters program"). Assumes nothing: these are definitions.
+use Prim.Native.Nat.{ℕ, zero, suc, _+_, _*_, _-_, _/_, _%_, _^_, min}
+use Prim.Native.Char.{code}
+use Prim.Native.String.{String}
+use Prim.Native.String as string
+use mathlib.Core.List.{List, [], _∷_, _++_}
+use mathlib.Core.Path.{_≡_}
+use lib.Dec.{ltb}
+use lib.ListN.{length, getD}
+use lib.Seq.{sets}
+use lib.Ieee.{Float, nan, binary64, ofBits}
+use Rattle.common.specs.Outcome.{Outcome, value, refused, numberIn, pick}
+use Rattle.letter.specs.declared.Letter.{Letter}
+use Rattle.letter.specs.Letter.{asciiOf}
+use Rattle.boundary.specs.Choice.{letterRule}
+
+-- the pieces of rows 0 to n - 1, joined
+unfoldable pub joined : {A : Type 0} → (ℕ → List A) → ℕ → List A
+joined f zero = []
+joined f (suc n) = joined f n ++ f n
+
+-- the bytes xs stand in the buffer from `at` on, the next place is past them, and every other byte is as it was
+pub record Wrote (old : List ℕ) (at : ℕ) (xs : List ℕ) (new : List ℕ) (next : ℕ) : Type 0 where
+  pub ends : next ≡ at + length xs
+  pub holds : new ≡ sets old at xs
+
+-- four bytes from an index on, the little end first, as a number
+abbrev pub halfAt : List ℕ → ℕ → ℕ
+halfAt s i = getD s i 0 + 256 * (getD s (i + 1) 0 + 256 * (getD s (i + 2) 0 + 256 * getD s (i + 3) 0))
+
+-- eight bytes
+abbrev pub wordAt : List ℕ → ℕ → ℕ
+wordAt s i = halfAt s i + 2 ^ 32 * halfAt s (i + 4)
+
+-- the float of eight bytes: `ofBits` gives `nan` for each NaN pattern
+unfoldable pub floatAt : List ℕ → ℕ → Float
+floatAt s i = ofBits binary64 (wordAt s i)
+
+-- p and T of row i, of 16 bytes
+abbrev pub pAt : List ℕ → ℕ → Float
+pAt s i = floatAt s (16 * i)
+
+abbrev pub tAt : List ℕ → ℕ → Float
+tAt s i = floatAt s (16 * i + 8)
+
+-- the columns of the first n rows
+abbrev pub pColumn : List ℕ → ℕ → List Float
+pColumn s n = joined (λ i. pAt s i ∷ []) n
+
+abbrev pub tColumn : List ℕ → ℕ → List Float
+tColumn s n = joined (λ i. tAt s i ∷ []) n
+
+-- the bytes of an ASCII text
+abbrev pub bytesOf : String → List ℕ
+bytesOf string.[] = []
+bytesOf (string._∷_ c s) = code c ∷ bytesOf s
+
+-- a number in decimal: its last digit and, where it is not below 10, its tenth part before it
+unfoldable pub digitsIn : ℕ → ℕ → List ℕ
+digitsIn zero n = (code "0" + n % 10) ∷ []
+digitsIn (suc k) n = pick (ltb n 10) [] (digitsIn k (n / 10)) ++ ((code "0" + n % 10) ∷ [])
+
+-- n turns are enough
+unfoldable pub decimal : ℕ → List ℕ
+decimal n = digitsIn n n
+
+-- the letter or '-'
+abbrev pub markIn : Outcome Letter → ℕ
+markIn (value l) = asciiOf l
+markIn (refused k) = code "-"
+
+-- row number, letter or '-', refusal
+unfoldable pub lineOf : ℕ → Outcome Letter → List ℕ
+lineOf n o = decimal n ++ ((code " " ∷ markIn o ∷ bytesOf " ") ++ (decimal (numberIn o) ++ bytesOf "\n"))
+
+-- the lines of the first n rows of two columns, after `done` rows
+unfoldable pub linesOf : ℕ → List Float → List Float → ℕ → List ℕ
+linesOf done p t n = joined (λ i. lineOf (done + i + 1) (letterRule (getD p i nan) (getD t i nan))) n
+
+-- the same of the bytes themselves
+unfoldable pub blockOf : ℕ → List ℕ → ℕ → List ℕ
+blockOf done s n = joined (λ i. lineOf (done + i + 1) (letterRule (pAt s i) (tAt s i))) n
+
+-- how many rows a page of n bytes works after `done` rows: whole ones, 512 at most, whose numbers are below 2^64
+abbrev pub rowsIn : ℕ → ℕ → ℕ
+rowsIn done n = min (min (n / 16) 512) (2 ^ 64 - 1 - done)
+
+-- the lines of a page
+abbrev pub pageOf : ℕ → List ℕ → List ℕ
+pageOf done s = blockOf done s (rowsIn done (length s))
+
+-- whole rows, and bytes left after them
+unfoldable pub lastLine : ℕ → ℕ → List ℕ
+lastLine n left = bytesOf "rows " ++ (decimal n ++ (bytesOf " left " ++ (decimal left ++ bytesOf "\n")))
+
+-- the last line after a page of n bytes: all rows worked, and the bytes of the page past its rows
+abbrev pub endOf : ℕ → ℕ → List ℕ
+endOf done n = lastLine (done + rowsIn done n) (n - 16 * rowsIn done n)
+
+-- the whole output for a stream, after `done` rows
+unfoldable pub outputOf : ℕ → List ℕ → List ℕ
+outputOf done s = blockOf done s (length s / 16) ++ lastLine (done + length s / 16) (length s % 16)
+
+-- what the turns of `letters` write: a page for each 8,192 bytes, then a page of the rest and the last line
+unfoldable pub turnsOf : ℕ → List (List ℕ) → List ℕ → List ℕ
+turnsOf done [] rest = pageOf done rest ++ endOf done (length rest)
+turnsOf done (s ∷ blocks) rest = pageOf done s ++ turnsOf (done + 512) blocks rest
+
+-- each of the blocks is full
+unfoldable pub Full : List (List ℕ) → Type 0
+Full [] = Unit
+Full (s ∷ blocks) = (length s ≡ 8192) × Full blocks

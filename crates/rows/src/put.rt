@@ -1,0 +1,83 @@
+// From choices to lines. Each function writes from an index on and answers the next.
+use boundary::sub_region3_pT;
+use common::Kelvin;
+use common::MPa;
+use letter::Choice;
+use letter::ascii;
+use letter::refusal_byte;
+ghost use mathlib.Core.Path.{_≡_};
+ghost use Prim.Native.Nat.{_+_, _*_, _≤_, _<_, _^_, _%_};
+ghost use lib.ListN.{length};
+ghost use Rattle.letter.specs.Letter.{chosen};
+ghost use Rattle.rows.specs.Lines.{decimal, markIn, lineOf, linesOf, Wrote};
+
+// All of src.
+pub fn put(out: &mut [u8], at: usize, src: &[u8]) -> usize
+    requires { ⌜ at + length (now src) ≤ length (now out) ⌝ }
+    ensures { λ r. ⌜ Wrote (now (out .entry)) at (now (src .entry)) (now (out .exit)) r ⌝ }
+{
+    let mut i = 0;
+    while i < src.len() {
+        out[at + i] = src[i];
+        i += 1;
+    }
+    at + i
+}
+
+fn digit(n: u64) -> u8
+    ensures { λ r. ⌜ r ≡ 48 + n % 10 ⌝ }
+{
+    48 + (n % 10) as u8
+}
+
+// A number in decimal.
+pub fn put_decimal(out: &mut [u8], at: usize, n: u64) -> usize
+    requires { ⌜ at + length (decimal n) ≤ length (now out) ⌝ }
+    ensures { λ r. ⌜ Wrote (now (out .entry)) at (decimal n) (now (out .exit)) r ⌝ }
+{
+    if n < 10 {
+        out[at] = digit(n);
+        return at + 1;
+    }
+    let next = put_decimal(out, at, n / 10);
+    out[next] = digit(n);
+    next + 1
+}
+
+fn mark(c: Choice) -> u8
+    ensures { λ r. ⌜ r ≡ markIn (chosen c) ⌝ }
+{
+    match c {
+        Choice::Taken(l) => ascii(l),
+        Choice::Refused(_) => b'-',
+    }
+}
+
+// The line of one row, of 27 bytes at most.
+fn put_line(out: &mut [u8], at: usize, row: u64, c: Choice) -> usize
+    requires { ⌜ at + 27 ≤ length (now out) ⌝ }
+    ensures { λ r. ⌜ Wrote (now (out .entry)) at (lineOf row (chosen c)) (now (out .exit)) r ⌝ }
+    ensures { λ r. ⌜ r ≤ at + 27 ⌝ }
+{
+    let a = put_decimal(out, at, row);
+    let b = put(out, a, &[b' ', mark(c), b' ']);
+    let d = put_decimal(out, b, refusal_byte(c) as u64);
+    put(out, d, b"\n")
+}
+
+// The lines of the first n rows of the columns, from index 0 on.
+pub fn put_lines(ps: &[f64], ts: &[f64], n: usize, done: u64, out: &mut [u8]) -> usize
+    requires { ⌜ (n ≤ length (now ps)) × (n ≤ length (now ts)) × (27 * n ≤ length (now out)) × (done + n < 2 ^ 64) ⌝ }
+    ensures { λ r. ⌜ Wrote (now (out .entry)) 0 (linesOf done (now (ps .entry)) (now (ts .entry)) n) (now (out .exit)) r ⌝ }
+    ensures { λ r. ⌜ r ≤ 27 * n ⌝ }
+{
+    let mut at = 0;
+    let mut i = 0;
+    let mut row = done;
+    while i < n {
+        row += 1;
+        at = put_line(out, at, row, sub_region3_pT(MPa(ps[i]), Kelvin(ts[i])));
+        i += 1;
+    }
+    at
+}
