@@ -1,4 +1,4 @@
--- The twelve boundaries between the subregions of region 3 as S05rev prints them: equations 1, 2 and 3, with the coefficients of table 2.
+-- The twelve boundaries between the subregions of region 3 as S05rev prints them: equations 1, 2 and 3, each with its table of coefficients.
 -- Assumes nothing: these are definitions.
 use Prim.Native.Nat.{ℕ, suc}
 use mathlib.Core.List.{List, [], _∷_}

@@ -1,9 +1,9 @@
--- The choice of a subregion's letter, as document 01 has it: the bands by p, and in each the letters by T. The choosers go by numbers of any kind,
--- NaN included; the rules below them work the boundaries out. Assumes nothing: these are definitions.
-use mathlib.Core.Bool.{Bool, true, false, _&&_}
+-- The choice of a subregion's letter, as document 01 has it: the bands by p, and in each the letters by T. The choosers take the boundaries as
+-- numbers, whatever these are, a NaN too; the rules below them work the boundaries out. Assumes nothing: these are definitions.
+use mathlib.Core.Bool.{Bool, _&&_}
 use mathlib.Core.List.{List, [], _∷_}
 use lib.Ieee.{Float, le, lt}
-use Rattle.common.specs.Outcome.{Outcome, value, refused, then, pick}
+use Rattle.common.specs.Outcome.{Outcome, value, then, pick}
 use Rattle.common.specs.Decimal.{decimal, whole}
 use Rattle.common.specs.Constant.{P-FROM, P-TO, T-FROM, T-TO}
 use Rattle.common.specs.Range.{pairRule}
@@ -51,7 +51,7 @@ abbrev pub first : List Step → Letter → Float → Letter
 first [] last t = last
 first (s ∷ rest) last t = pick (ends s t) (letterOf s) (first rest last t)
 
--- b where t is above the boundary: that of a NaN is a
+-- b above the boundary and else a, so that a NaN gives a
 abbrev pub abBy : Float → Float → Letter
 abBy tab t = pick (lt tab t) B A
 

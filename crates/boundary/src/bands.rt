@@ -15,13 +15,9 @@ use crate::letter_by::round_critical;
 use crate::lines::raw_boundary;
 use common::Kelvin;
 use common::MPa;
-use common::P_FROM;
-use common::P_TO;
 use common::Refusal;
-use common::T_FROM;
-use common::T_TO;
 use common::Verdict;
-use common::check_pair;
+use common::check_pT;
 use common::is_finite;
 use letter::Choice;
 use letter::Letter;
@@ -210,7 +206,7 @@ fn letter_at(p: f64, t: f64) -> Choice
 pub fn sub_region3_pT(p: MPa, t: Kelvin) -> Choice
     ensures { λ r. ⌜ chosen r ≡ letterRule (p .0) (t .0) ⌝ }
 {
-    match check_pair(p.0, P_FROM, P_TO, t.0, T_FROM, T_TO) {
+    match check_pT(p, t) {
         Verdict::Accepted => letter_at(p.0, t.0),
         Verdict::Refused(k) => Choice::Refused(k),
     }

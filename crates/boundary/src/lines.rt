@@ -15,7 +15,7 @@ ghost use Rattle.common.specs.Answer.{paper};
 ghost use Rattle.rules.specs.Log.{logarithmRule};
 ghost use Rattle.boundary.specs.Boundary.{rawSum, cubicPowers, quarticPowers, lnPowers, boundaryOf, boundaryRule};
 
-// S05rev, table 2: the coefficients of each boundary, by rising exponent of p; of 3ab, 3op and 3wx by the exponents 0, 1, 2, -1, -2 of ln p.
+// S05rev: the coefficients of each boundary, by rising exponent of p; of 3ab, 3op and 3wx by the exponents 0, 1, 2, -1, -2 of ln p.
 const N3AB: [f64; 5] = [
     0.154793642129415e4,
     -0.187661219490113e3,
@@ -99,7 +99,7 @@ const N3WX: [f64; 5] = [
     0.873371668682417e3,
 ];
 
-// The sums of equation 1, with p^2 and p^4 as the power rule works them.
+// The sums of equation 1, from +0.0 on, with each power as the power rule works it, from 1 on.
 fn cubic(p: f64, row: [f64; 4]) -> f64
     ensures { λ r. ⌜ r ≡ rawSum p cubicPowers row ⌝ }
 {
@@ -154,6 +154,7 @@ pub fn raw_boundary(b: Boundary, p: f64) -> f64
     }
 }
 
+// The temperature at the boundary in K.
 pub fn T_atRegionBoundary(p: MPa, b: Boundary) -> Answer
     ensures { λ r. ⌜ paper r ≡ boundaryRule b (p .0) ⌝ }
 {

@@ -1,5 +1,5 @@
 -- Each contract admits one answer. Assumes nothing.
-use mathlib.Core.Path.{_≡_, sym, _∙_}
+use mathlib.Core.Path.{sym, _∙_}
 use Rattle.common.proofs.Same.{One, same-answer}
 use Rattle.r4.proofs.p_saturation.Kinds as p-kinds
 use Rattle.r4.proofs.p_saturation.Reads as p

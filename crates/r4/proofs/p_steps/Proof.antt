@@ -4,7 +4,7 @@ use lib.IntN.{pos}
 use lib.Ieee.{binary64, ofBits, round}
 use lib.Ieee.Fits.{sub-fits}
 use Rattle.common.specs.Outcome.{orNan}
-use Rattle.common.specs.Decimal.{scaled, decimal, whole}
+use Rattle.common.specs.Decimal.{scaled, whole}
 use Rattle.r4.specs.Saturation.{p-saturation, n1, n2, n3, n4, n5, n6, n7, n8, n9, n10}
 use Rattle.rules.proofs.Formulas.{raw-value, raw-add, raw-sub, raw-mul, raw-over, raw-minus, raw-rootOf, raw-powerOf, raw-add-from, raw-sub-from, named}
 use borrow.Author.Needs.{needs}

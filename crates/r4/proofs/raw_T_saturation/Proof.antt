@@ -1,7 +1,7 @@
 -- `r4::raw_T_saturation` meets its contract. Assumes nothing.
-use mathlib.Core.Path.{_≡_, sym, ap, _∙_}
+use mathlib.Core.Path.{sym, ap, _∙_}
 use lib.Ieee.{ofBits, div}
-use Rattle.common.specs.Outcome.{check, orNan}
+use Rattle.common.specs.Outcome.{orNan}
 use Rattle.common.proofs.Laws.{check-kept, check-lost}
 use borrow.Author.Needs.{needs}
 use Rattle.r4.proofs.raw_T_saturation.Statement.{statement}

@@ -2,7 +2,7 @@
 use mathlib.Core.Path.{_≡_, refl, sym, _∙_}
 use mathlib.Core.Bool.{true, false}
 use mathlib.Core.List.{[], _∷_}
-use lib.Ieee.{Float, lt, ofBits, round}
+use lib.Ieee.{lt, ofBits, round}
 use Rattle.common.specs.Outcome.{value, refused, finite, pick, then}
 use Rattle.common.specs.Decimal.{decimal, scaled}
 use Rattle.common.specs.Sum.{every}

@@ -1,15 +1,13 @@
 -- `boundary::bands::sub_region3_pT` meets its contract: the box, then the letter. Assumes nothing.
 use mathlib.Core.Path.{sym, _∙_}
-use lib.Ieee.{ofBits, round}
-use Rattle.common.specs.Decimal.{scaled, decimal, whole}
 use Rattle.common.proofs.Calls.{going-on, turned-away}
 use Rattle.boundary.specs.Choice.{letterRule}
 use borrow.Author.Needs.{needs}
 use Rattle.boundary.proofs.bands.sub_region3_pT.Statement.{statement}
 use Rattle.boundary.proofs.bands.sub_region3_pT.Tie as tie
 
-check-pair-requires : tie.Need-check-pair-requires
-check-pair-requires c κs = search needs
+check-pT-requires : tie.Need-check-pT-requires
+check-pT-requires c κs = search needs
 
 enum-told : tie.Need-enum-told
 enum-told c = search needs
@@ -21,14 +19,14 @@ enum-known-k : tie.Need-enum-known-k
 enum-known-k c = search needs
 
 returns : tie.Need-returns
-unfolding letterRule scaled decimal whole round ofBits
-returns c = c .letter-at .ensures ∙ sym (going-on (c .before .before .before .check-pair .ensures) _ (c .before .enum-told .given .1))
+unfolding letterRule
+returns c = c .letter-at .ensures ∙ sym (going-on (c .before .before .before .check-pT .ensures) _ (c .before .enum-told .given .1))
 
 returns-2 : tie.Need-returns-2
-unfolding letterRule scaled decimal whole round ofBits
-returns-2 c = sym (turned-away (c .before .before .before .check-pair .ensures) _ _ (c .before .k .given .1))
+unfolding letterRule
+returns-2 c = sym (turned-away (c .before .before .before .check-pT .ensures) _ _ (c .before .k .given .1))
 
 pub sub-region3-pT-spec : {M : Type 1} → statement M
 sub-region3-pT-spec =
     tie.close
-    (tie.spec check-pair-requires enum-told letter-at-requires enum-known-k returns returns-2)
+    (tie.spec check-pT-requires enum-told letter-at-requires enum-known-k returns returns-2)

@@ -1,0 +1,6 @@
+pub mod Pressure
+pub mod Expressions
+pub mod Distances
+pub mod Letters
+pub mod Contract
+pub mod Points
