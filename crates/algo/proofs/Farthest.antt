@@ -1,0 +1,263 @@
+-- The reach that is found from a table's columns covers its rows, and is wider than the power rule only where a row is. Assumes nothing.
+use mathlib.Core.Path.{_≡_, refl, sym, ap, _∙_, subst}
+use mathlib.Core.Bool.{Bool, true, false}
+use mathlib.Core.List.{List, [], _∷_}
+use Prim.Native.Nat.{ℕ, zero, suc, _+_, _-_, _^_, _<_, _≤_}
+use native.Mathlib.Omega.{arith}
+use native.Mathlib.Numerals.{add-one}
+use lib.Dec.{T, ltb, leb, leb→le, le→leb, ltb→lt, lt→ltb}
+use lib.IntN.{ℤ, pos, negsuc, negℤ, natAbs, _-ℤ_}
+use lib.ListN.{length, drop, getD, drop-of-length-le}
+use lib.Seq.{drop-cons}
+use lib.Signed.{mag, ltZ}
+use lib.Ieee.{Float}
+use borrow.Author.Tests.{ltb-true, ltb-false, lt-ltb, le-ltb}
+use Rattle.common.specs.Outcome.{pick}
+use Rattle.common.specs.Sum.{both, every}
+use Rattle.common.proofs.Laws.{never}
+use Rattle.common.proofs.Sums.{both-left, both-right, T-true}
+use Rattle.algo.specs.Table.{Row, row, rowsOf, left}
+use Rattle.algo.specs.Raw.{inRange}
+use Rattle.algo.specs.Reach.{spans, covers, room, steps, upOf, downOf, most, farthest, Reached}
+use Rattle.algo.specs.declared.Order.{Order}
+use Rattle.algo.specs.declared.Order.the-variants.{Zero, One, Two}
+use Rattle.algo.specs.declared.Reach.{Reach}
+use Rattle.algo.proofs.Reaches.{both-make, every-map}
+
+-- ---- the most of a column
+
+record Most (a b m : ℕ) : Type 0 where
+  left : a ≤ m
+  right : b ≤ m
+  least : (n : ℕ) → a ≤ n → b ≤ n → m ≤ n
+
+most-says : (a b : ℕ) → Most a b (most a b)
+most-says a b = by (ltb a b) refl
+  where
+    by : (t : Bool) → ltb a b ≡ t → Most a b (most a b)
+    by true e = let l : a < b = ltb-true a b e in rw e record { left = omega arith; right = omega arith; least = λ n p q. q }
+    by false e = let l : b ≤ a = ltb-false a b e in rw e record { left = omega arith; right = omega arith; least = λ n p q. p }
+
+module _ (f : ℤ → ℕ) where
+  above : (u : ℕ) (ks : List ℤ) → u ≤ farthest f u ks
+  unfolding farthest
+  above u [] = omega arith
+  above u (k ∷ ks) = let m = most-says u (f k) in omega (arith, above (most u (f k)) ks, m .left)
+
+  each : (u : ℕ) (ks : List ℤ) → T (every (λ k. leb (f k) (farthest f u ks)) ks)
+  unfolding farthest every
+  each u [] = tt
+  each u (k ∷ ks) =
+      let m = most-says u (f k) in
+      both-make (leb (f k) (farthest f (most u (f k)) ks)) (every (λ k'. leb (f k') (farthest f (most u (f k)) ks)) ks)
+      (le→leb (f k) (farthest f (most u (f k)) ks) (omega (arith, above (most u (f k)) ks, m .right)))
+      (each (most u (f k)) ks)
+
+  bound : (b u : ℕ) (ks : List ℤ) → u ≤ b → T (every (λ k. leb (f k) b) ks) → farthest f u ks ≤ b
+  unfolding farthest every
+  bound b u [] h t = h
+  bound b u (k ∷ ks) h t =
+      let l = leb→le (f k) b (both-left (leb (f k) b) (every (λ k. leb (f k) b) ks) t) in
+      bound b (most u (f k)) ks (most-says u (f k) .least b h l) (both-right (leb (f k) b) (every (λ k. leb (f k) b) ks) t)
+
+-- ---- an exponent whose power is derived
+
+-- y is z less s
+record Moved (s : ℕ) (z y : ℤ) : Type 0 where
+  up : upOf y ≡ upOf z - s
+  down : downOf y ≤ downOf z + s
+  deep : natAbs y ≤ 64 → downOf z + s ≤ 64
+  high : natAbs y ≤ 64 → upOf z - s ≤ 64
+
+moved-by : (c : ℕ) → c ≤ 1 → (z : ℤ) → Moved (suc c) z (z -ℤ pos (suc c))
+moved-by c l (pos a) = by (ltb a (suc c)) refl
+  where
+    by : (b : Bool) → ltb a (suc c) ≡ b → Moved (suc c) (pos a) (pos a -ℤ pos (suc c))
+    by true e = let m : a < suc c = ltb-true a (suc c) e in rw e record { up = omega arith; down = omega arith; deep = λ h. omega arith; high = λ h. omega arith }
+    by false e = let m : suc c ≤ a = ltb-false a (suc c) e in rw e record { up = omega arith; down = omega arith; deep = λ h. omega arith; high = λ h. omega arith }
+moved-by c l (negsuc a) = record { up = omega arith; down = omega arith; deep = λ h. omega arith; high = λ h. omega arith }
+
+moved : (d : Order) (z : ℤ) → Moved (steps d) z (left d z)
+moved Zero (pos a) = record { up = omega arith; down = omega arith; deep = λ h. omega arith; high = λ h. omega arith }
+moved Zero (negsuc a) = record { up = omega arith; down = omega arith; deep = λ h. omega arith; high = λ h. omega arith }
+moved One z = moved-by 0 (omega arith) z
+moved Two z = moved-by 1 (omega arith) z
+
+spans-of : (u d : ℕ) (z : ℤ) → upOf z ≤ u → downOf z ≤ d → T (spans u d z)
+spans-of u d (pos k) p q = le→leb k u p
+spans-of u d (negsuc k) p q = lt→ltb k d q
+
+-- ---- a column
+
+every-two : (f g h : ℤ → Bool) → ((k : ℤ) → T (f k) → T (g k) → T (h k)) → (ks : List ℤ) → T (every f ks) → T (every g ks) → T (every h ks)
+unfolding every
+every-two f g h e [] s t = tt
+every-two f g h e (k ∷ ks) s t =
+    both-make (h k) (every h ks) (e k (both-left (f k) (every f ks) s) (both-left (g k) (every g ks) t))
+    (every-two f g h e ks (both-right (f k) (every f ks) s) (both-right (g k) (every g ks) t))
+
+-- how far its powers go, up and down, derived so often
+abbrev pub ups : Order → List ℤ → ℕ
+ups d ks = farthest upOf 0 ks - steps d
+
+abbrev pub downs : Order → List ℤ → ℕ
+downs d ks = farthest downOf 0 ks + steps d
+
+abbrev ranged : Order → ℤ → Bool
+ranged d k = leb (natAbs (left d k)) 64
+
+column-spans : (d : Order) (ks : List ℤ) → T (every (λ k. spans (ups d ks) (downs d ks) (left d k)) ks)
+column-spans d ks =
+    every-two (λ k. leb (upOf k) (farthest upOf 0 ks)) (λ k. leb (downOf k) (farthest downOf 0 ks)) (λ k. spans (ups d ks) (downs d ks) (left d k))
+    (λ k s t.
+    let m = moved d k in
+    let p = leb→le (upOf k) (farthest upOf 0 ks) s in
+    let q = leb→le (downOf k) (farthest downOf 0 ks) t in
+    spans-of (ups d ks) (downs d ks) (left d k) (omega (arith, m .up)) (omega (arith, m .down)))
+    ks (each upOf 0 ks) (each downOf 0 ks)
+
+pub steps-few : (d : Order) → steps d ≤ 2
+steps-few Zero = omega arith
+steps-few One = omega arith
+steps-few Two = omega arith
+
+ups-room : (d : Order) (ks : List ℤ) → T (every (ranged d) ks) → ups d ks ≤ 64
+ups-room d ks t =
+    let b = bound upOf (64 + steps d) 0 ks (omega arith)
+    (every-map (ranged d) (λ k. leb (upOf k) (64 + steps d)) (λ k r. le→leb (upOf k) (64 + steps d) (let h = moved d k .high (leb→le (natAbs (left d k)) 64 r) in omega arith)) ks t) in
+    omega arith
+
+downs-room : (d : Order) (ks : List ℤ) → T (every (ranged d) ks) → downs d ks ≤ 64
+downs-room d ks t =
+    let l = steps-few d in
+    let b = bound downOf (64 - steps d) 0 ks (omega arith)
+    (every-map (ranged d) (λ k. leb (downOf k) (64 - steps d)) (λ k r. le→leb (downOf k) (64 - steps d) (let h = moved d k .deep (leb→le (natAbs (left d k)) 64 r) in omega arith)) ks t) in
+    omega arith
+
+-- ---- the rows
+
+module _ (f : Row → Bool) (p q : ℤ → Bool) where
+  rows-each : ((i j : ℤ) (n : Float) → T (p i) → T (q j) → T (f (row i j n))) → (is js : List ℤ) (ns : List Float) → T (every p is) → T (every q js) → T (every f (rowsOf is js ns))
+  unfolding every rowsOf
+  rows-each h [] js ns s t = tt
+  rows-each h (i ∷ is) [] ns s t = tt
+  rows-each h (i ∷ is) (j ∷ js) [] s t = tt
+  rows-each h (i ∷ is) (j ∷ js) (n ∷ ns) s t =
+      both-make (f (row i j n)) (every f (rowsOf is js ns)) (h i j n (both-left (p i) (every p is) s) (both-left (q j) (every q js) t))
+      (rows-each h is js ns (both-right (p i) (every p is) s) (both-right (q j) (every q js) t))
+
+  columns-each : ((i j : ℤ) (n : Float) → T (f (row i j n)) → T (p i) × T (q j)) → (is js : List ℤ) (ns : List Float) → length is ≡ length ns → length js ≡ length ns
+      → T (every f (rowsOf is js ns)) → T (every p is) × T (every q js)
+  unfolding every rowsOf
+  columns-each h [] [] ns a b t = (tt, tt)
+  columns-each h [] (j ∷ js) [] a b t = absurd (omega arith)
+  columns-each h [] (j ∷ js) (n ∷ ns) a b t = absurd (omega arith)
+  columns-each h (i ∷ is) [] [] a b t = absurd (omega arith)
+  columns-each h (i ∷ is) [] (n ∷ ns) a b t = absurd (omega arith)
+  columns-each h (i ∷ is) (j ∷ js) [] a b t = absurd (omega arith)
+  columns-each h (i ∷ is) (j ∷ js) (n ∷ ns) a b t =
+      let r = h i j n (both-left (f (row i j n)) (every f (rowsOf is js ns)) t) in
+      let rs = columns-each h is js ns (omega arith) (omega arith) (both-right (f (row i j n)) (every f (rowsOf is js ns)) t) in
+      (both-make (p i) (every p is) (r .0) (rs .0), both-make (q j) (every q js) (r .1) (rs .1))
+
+-- the reach by the columns
+pub reached : (a b : Order) (is js : List ℤ) (ns : List Float) → length is ≡ length ns → length js ≡ length ns → (r : Reach)
+    → r .«up_i» ≡ ups a is → r .«down_i» ≡ downs a is → r .«up_j» ≡ ups b js → r .«down_j» ≡ downs b js → Reached a b (rowsOf is js ns) r
+reached a b is js ns li lj r ui di uj dj = record {
+  each =
+      rows-each (covers a b r) (λ i. spans (r .«up_i») (r .«down_i») (left a i)) (λ j. spans (r .«up_j») (r .«down_j») (left b j))
+      (λ i j n s t. both-make (spans (r .«up_i») (r .«down_i») (left a i)) (spans (r .«up_j») (r .«down_j») (left b j)) s t)
+      is js ns (rw (ui, di) (column-spans a is)) (rw (uj, dj) (column-spans b js));
+  exact = λ small. out small (every (inRange a b) (rowsOf is js ns)) refl;
+}
+  where
+    out : room r ≡ false → (t : Bool) → every (inRange a b) (rowsOf is js ns) ≡ t → every (inRange a b) (rowsOf is js ns) ≡ false
+    out small false e = e
+    out small true e =
+        let c = columns-each (inRange a b) (ranged a) (ranged b) (λ i j n t. (both-left (ranged a i) (ranged b j) t, both-right (ranged a i) (ranged b j) t)) is js ns li lj (subst T (sym e) tt) in
+        let s1 : T (leb (r .«up_i») 64) = rw ui (le→leb (ups a is) 64 (ups-room a is (c .0))) in
+        let s2 : T (leb (r .«down_i») 64) = rw di (le→leb (downs a is) 64 (downs-room a is (c .0))) in
+        let s3 : T (leb (r .«up_j») 64) = rw uj (le→leb (ups b js) 64 (ups-room b js (c .1))) in
+        let s4 : T (leb (r .«down_j») 64) = rw dj (le→leb (downs b js) 64 (downs-room b js (c .1))) in
+        let big : room r ≡ true = T-true (room r)
+        (both-make (leb (r .«up_i») 64) (both (leb (r .«down_i») 64) (both (leb (r .«up_j») 64) (leb (r .«down_j») 64))) s1
+        (both-make (leb (r .«down_i») 64) (both (leb (r .«up_j») 64) (leb (r .«down_j») 64)) s2
+        (both-make (leb (r .«up_j») 64) (leb (r .«down_j») 64) s3 s4))) in
+        never (sym big ∙ small)
+
+-- ---- a loop over a column
+
+down-small : (d : ℕ) (z : ℤ) → d ≤ 2 ^ 31 → mag z < 2 ^ 31 → most d (downOf z) ≤ 2 ^ 31
+down-small d (pos k) h l = most-says d 0 .least (2 ^ 31) h (omega arith)
+down-small d (negsuc k) h l = most-says d (suc k) .least (2 ^ 31) h l
+
+farthest-more : (f : ℤ → ℕ) (u : ℕ) (ks : List ℤ) (k : ℕ) → k < length ks → farthest f u (drop k ks) ≡ farthest f (most u (f (getD ks k (pos 0)))) (drop (k + 1) ks)
+unfolding farthest
+farthest-more f u ks k h = rw (add-one, drop-cons ks k (pos 0) h)
+
+farthest-done : (f : ℤ → ℕ) (u : ℕ) (ks : List ℤ) (k : ℕ) → length ks ≤ k → farthest f u (drop k ks) ≡ u
+unfolding farthest
+farthest-done f u ks k h = rw (drop-of-length-le ks {i = k} h)
+
+most-zero : (u : ℕ) → most u 0 ≡ u
+most-zero u = rw (le-ltb u 0 (omega arith))
+
+-- the higher of an exponent and one that is 0 or above, and the lower of it and one that is 0 or below
+higher : (u : ℕ) (z : ℤ) → pick (ltZ (pos u) z) z (pos u) ≡ pos (most u (upOf z))
+higher u (pos k) = by (ltb u k) refl
+  where
+    by : (b : Bool) → ltb u k ≡ b → pick (ltb u k) (pos k) (pos u) ≡ pos (most u k)
+    by true e = rw e
+    by false e = rw e
+higher u (negsuc k) = ap pos (sym (most-zero u))
+
+lower : (d : ℕ) (z : ℤ) → pick (ltZ z (negℤ (pos d))) z (negℤ (pos d)) ≡ negℤ (pos (most d (downOf z)))
+lower zero (pos k) = rw (le-ltb k 0 (omega arith))
+lower zero (negsuc k) = rw (lt-ltb 0 (suc k) (omega arith))
+lower (suc d) (pos k) = ap (λ (n : ℕ). negℤ (pos n)) (sym (most-zero (suc d)))
+lower (suc d) (negsuc k) = by (ltb d k) refl
+  where
+    by : (b : Bool) → ltb d k ≡ b → pick (ltb d k) (negsuc k) (negsuc d) ≡ negℤ (pos (most (suc d) (suc k)))
+    by true e = let l : d < k = ltb-true d k e in rw (e, lt-ltb (suc d) (suc k) (omega arith))
+    by false e = let l : k ≤ d = ltb-false d k e in rw (e, le-ltb (suc d) (suc k) (omega arith))
+
+-- what a loop knows of the rows that it passed: how far they go up and down, as the highest and the lowest exponent
+pub record Passed (ks : List ℤ) (k : ℕ) (top low : ℤ) : Type 0 where
+  pub up : ℕ
+  pub down : ℕ
+  pub top-is : top ≡ pos up
+  pub low-is : low ≡ negℤ (pos down)
+  pub rises : farthest upOf up (drop k ks) ≡ farthest upOf 0 ks
+  pub falls : farthest downOf down (drop k ks) ≡ farthest downOf 0 ks
+  pub small : down ≤ 2 ^ 31
+
+pub passed-none : (ks : List ℤ) → Passed ks 0 (pos 0) (pos 0)
+passed-none ks = record { up = 0; down = 0; top-is = refl; low-is = refl; rises = refl; falls = refl; small = omega arith }
+
+pub passed-more : (ks : List ℤ) (k : ℕ) (top low top' low' : ℤ) → k < length ks → mag (getD ks k (pos 0)) < 2 ^ 31
+    → top' ≡ pick (ltZ top (getD ks k (pos 0))) (getD ks k (pos 0)) top → low' ≡ pick (ltZ (getD ks k (pos 0)) low) (getD ks k (pos 0)) low
+    → Passed ks k top low → Passed ks (k + 1) top' low'
+passed-more ks k top low top' low' h l p q w =
+    let z = getD ks k (pos 0) in
+    record {
+      up = most (w .up) (upOf z);
+      down = most (w .down) (downOf z);
+      top-is = p ∙ rw (w .top-is) (higher (w .up) z);
+      low-is = q ∙ rw (w .low-is) (lower (w .down) z);
+      rises = sym (farthest-more upOf (w .up) ks k h) ∙ w .rises;
+      falls = sym (farthest-more downOf (w .down) ks k h) ∙ w .falls;
+      small = down-small (w .down) z (w .small) l;
+    }
+
+neg-abs : (n : ℕ) → natAbs (negℤ (pos n)) ≡ n
+neg-abs zero = refl
+neg-abs (suc n) = refl
+
+pub passed-all : (ks : List ℤ) (k : ℕ) (top low : ℤ) → length ks ≤ k → Passed ks k top low
+    → (natAbs top ≡ farthest upOf 0 ks) × (natAbs low ≡ farthest downOf 0 ks) × (natAbs low ≤ 2 ^ 31)
+passed-all ks k top low h w =
+    let e : natAbs low ≡ w .down = ap natAbs (w .low-is) ∙ neg-abs (w .down) in (
+      ap natAbs (w .top-is) ∙ sym (farthest-done upOf (w .up) ks k h) ∙ w .rises,
+      e ∙ sym (farthest-done downOf (w .down) ks k h) ∙ w .falls,
+      omega (arith, w .small),
+    )

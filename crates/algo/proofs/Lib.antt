@@ -1,0 +1,9 @@
+pub mod Dense
+pub mod Sums
+pub mod Loops
+pub mod Reaches
+pub mod Whole
+pub mod Farthest
+pub mod Refusals
+pub mod Settled
+pub mod Unique

@@ -1,0 +1,64 @@
+-- `algo::table_pair` meets its contract. Assumes nothing.
+use mathlib.Core.Path.{_≡_, sym, _∙_, ap}
+use mathlib.Core.List.{List}
+use denote.Ref.{now}
+use borrow.Author.Needs.{needs}
+use Rattle.common.specs.Outcome.{check}
+use Rattle.common.specs.Answer.{numberOf}
+use Rattle.algo.specs.Table.{Row, rowsOf}
+use Rattle.algo.specs.Joint.{pairOf, shareRule, pairTable}
+use Rattle.algo.specs.declared.Order.the-variants.{Zero}
+use Rattle.algo.proofs.Sums.{share-out}
+use Rattle.algo.proofs.Settled.{share-settled}
+use Rattle.algo.proofs.Refusals.{taken-by, refused-by}
+use Rattle.algo.proofs.polynomial.table_pair.Statement.{statement}
+use Rattle.algo.proofs.polynomial.table_pair.Tie as tie
+
+examine-requires : tie.Need-examine-requires
+examine-requires c κs = search needs
+
+enum-known-reach : tie.Need-enum-known-reach
+enum-known-reach c = search needs
+
+const-pair-requires : tie.Need-const-pair-requires
+const-pair-requires c κs = rw (c .before .reach .given .1) at (c .before .before .before .examine .ensures)
+
+settle-pair-requires : tie.Need-settle-pair-requires
+settle-pair-requires c κs = search needs
+
+enum-known-k : tie.Need-enum-known-k
+enum-known-k c = search needs
+
+returns : tie.Need-returns
+unfolding pairTable
+returns c =
+    let x = c .before in
+    let m = x .before .before in
+    let e = m .before .before in
+    let a = e .before .before .args in
+    let rows = rowsOf (now (a .is)) (now (a .js)) (now (a .ns)) in
+    let h = rw (m .reach .given .1) at (e .examine .ensures) in
+    let p = x .const-pair .ensures in
+    c .settle-pair .ensures
+    ∙ (rw (p .0, p .1, share-settled (a .a) (a .s) (a .vi) (a .vj) rows, share-settled (a .a) (a .t) (a .vi) (a .vj) rows))
+    ∙ sym (taken-by (λ (rs : List Row). pairOf (shareRule (a .a) (a .s) (a .vi) (a .vj) rs) (shareRule (a .a) (a .t) (a .vi) (a .vj) rs)) (now (a .is)) (now (a .js)) (now (a .ns)) (h .0) (h .1))
+
+returns-2 : tie.Need-returns-2
+unfolding pairTable
+returns-2 c =
+    let e = c .before .before .before in
+    let a = e .before .before .args in
+    let k = c .before .k .given in
+    sym (refused-by (λ (rs : List Row). pairOf (shareRule (a .a) (a .s) (a .vi) (a .vj) rs) (shareRule (a .a) (a .t) (a .vi) (a .vj) rs)) (now (a .is)) (now (a .js)) (now (a .ns)) (a .a) Zero (λ rs out. rw (share-out (a .a) (a .s) (a .vi) (a .vj) rs out)) (numberOf (k .0 .0)) (rw (k .1) at (e .examine .ensures)))
+
+pub table-pair-spec : {M : Type 1} → statement M
+table-pair-spec =
+    tie.close
+    (tie.spec
+    examine-requires
+    enum-known-reach
+    const-pair-requires
+    settle-pair-requires
+    enum-known-k
+    returns
+    returns-2)

@@ -1,0 +1,53 @@
+-- `algo::settled` meets its contract: 0.0 / 0.0 is a NaN. Assumes nothing.
+use mathlib.Core.Path.{_≡_}
+use mathlib.Core.Bool.{true, false}
+use lib.Ieee.{div, ofBits}
+use borrow.Author.Needs.{needs}
+use Rattle.common.specs.Outcome.{finite}
+use Rattle.common.proofs.Laws.{check-kept, check-lost}
+use Rattle.algo.proofs.tables.settled.Statement.{statement}
+use Rattle.algo.proofs.tables.settled.Tie as tie
+
+is-finite-requires : tie.Need-is-finite-requires
+is-finite-requires c κs = search needs
+
+is-finite-requires-2 : tie.Need-is-finite-requires-2
+is-finite-requires-2 c κs = search needs
+
+is-finite-requires-3 : tie.Need-is-finite-requires-3
+is-finite-requires-3 c κs = search needs
+
+returns : tie.Need-returns
+returns c =
+    let a = c .before .before .before .before .before .before .args in
+    rw (check-kept (a .vi) (cc), check-kept (a .vj) (cc), check-kept (a .x) (cc))
+
+returns-2 : tie.Need-returns-2
+unfolding div ofBits
+returns-2 c =
+    let a = c .before .before .before .before .before .before .args in
+    rw (check-kept (a .vi) (cc), check-kept (a .vj) (cc), check-lost (a .x) (cc))
+
+returns-3 : tie.Need-returns-3
+unfolding div ofBits
+returns-3 c =
+    let a = c .before .before .before .before .args in
+    rw (check-kept (a .vi) (cc), check-lost (a .vj) (cc))
+
+returns-4 : tie.Need-returns-4
+unfolding div ofBits
+returns-4 c =
+    let a = c .before .before .args in
+    rw (check-lost (a .vi) (cc))
+
+pub settled-spec : {M : Type 1} → statement M
+settled-spec =
+    tie.close
+    (tie.spec
+    is-finite-requires
+    is-finite-requires-2
+    is-finite-requires-3
+    returns
+    returns-2
+    returns-3
+    returns-4)

@@ -1,0 +1,34 @@
+-- Powers of one base in a table of 129: the power n stands at 64 + n, for n from -64 to 64. Assumes nothing: these are definitions.
+use Prim.Native.Nat.{ℕ, zero, suc, _+_, _-_, _<_, _≤_}
+use mathlib.Core.Path.{_≡_}
+use mathlib.Core.Bool.{Bool, true, false}
+use mathlib.Core.List.{List}
+use lib.Dec.{ltb}
+use lib.IntN.{ℤ, pos, negsuc}
+use lib.ListN.{length, getD}
+use lib.Ieee.{Float, nan, binary64, mul}
+use Rattle.rules.specs.Power.{rawPower}
+use Rattle.algo.specs.declared.Reach.{Reach}
+
+-- a, squared h times
+unfoldable pub squared : ℕ → Float → Float
+squared zero a = a
+squared (suc h) a = squared h (mul binary64 a a)
+
+abbrev pub exponent : Bool → ℕ → ℤ
+exponent true k = negsuc (63 - k)
+exponent false k = pos (k - 64)
+
+-- the exponent whose power stands at k
+abbrev pub exponentAt : ℕ → ℤ
+exponentAt k = exponent (ltb k 64) k
+
+-- from lo to below hi each power of a stands in its place
+pub record Filled (a : Float) (w : List Float) (lo hi : ℕ) : Type 0 where
+  pub size : length w ≡ 129
+  pub at : (k : ℕ) → lo ≤ k → k < hi → getD w k nan ≡ rawPower a (exponentAt k)
+
+-- the powers of both bases, as far as r goes
+pub record Stocked (vi vj : Float) (wi wj : List Float) (r : Reach) : Type 0 where
+  pub i : Filled vi wi (64 - r .«down_i») (65 + r .«up_i»)
+  pub j : Filled vj wj (64 - r .«down_j») (65 + r .«up_j»)

@@ -1,0 +1,137 @@
+// A row's part in a sum, and the sums of such parts, by two tables of powers that have each one.
+use crate::Order;
+use crate::Pair;
+use crate::Share;
+use crate::powers::over;
+use crate::powers::place;
+ghost use mathlib.Core.Path.{_≡_};
+ghost use Prim.Native.Nat.{ℕ, _+_, _-_, _≤_};
+ghost use lib.Dec.{T};
+ghost use lib.IntN.{natAbs};
+ghost use lib.ListN.{length};
+ghost use lib.Ieee.{Float};
+ghost use Rattle.common.specs.Outcome.{zeroF};
+ghost use Rattle.common.specs.Sum.{rawTotal, every};
+ghost use Rattle.algo.specs.Table.{row, rowsOf, left};
+ghost use Rattle.algo.specs.Raw.{rawFactor, rawDerived, rawWeigh, rawShared, rawDivided};
+ghost use Rattle.algo.specs.Dense.{Filled, Stocked};
+ghost use Rattle.algo.specs.Reach.{spans, covers, widest};
+ghost use Rattle.algo.specs.declared.Reach.{Reach};
+
+// x with the factor v^k, derived so often.
+fn factor_at(d: Order, w: &[f64; 129], k: i32, x: f64) -> f64
+    requires { ⌜ T (spans 64 64 (left d k)) ⌝ }
+    ensures { λ r. ⌜ ((v : Float) (u e : ℕ) → Filled v (now (w .entry)) (64 - e) (65 + u) → T (spans u e (left d k)) → r ≡ rawFactor d v k x) ⌝ }
+{
+    match d {
+        Order::Zero => {
+            let at = place(k);
+            x * w[at]
+        }
+        Order::One => {
+            let at = place(k - 1);
+            let power = w[at];
+            let times = k as f64;
+            x * times * power
+        }
+        Order::Two => {
+            let at = place(k - 2);
+            let power = w[at];
+            let fallen = (k * (k - 1)) as f64;
+            x * fallen * power
+        }
+    }
+}
+
+// A row's term.
+fn item_at(a: Order, b: Order, wi: &[f64; 129], wj: &[f64; 129], i: i32, j: i32, n: f64) -> f64
+    requires { ⌜ T (covers a b widest (row i j n)) ⌝ }
+    ensures { λ x. ⌜ ((vi vj : Float) (r : Reach) → Stocked vi vj (now (wi .entry)) (now (wj .entry)) r → T (covers a b r (row i j n)) → x ≡ rawDerived a b vi vj (row i j n)) ⌝ }
+{
+    factor_at(b, wj, j, factor_at(a, wi, i, n))
+}
+
+// What the item x of a row adds to a sum.
+fn weigh(s: Share, i: i32, j: i32, x: f64) -> f64
+    requires { ⌜ (natAbs i ≤ 66) × (natAbs j ≤ 66) ⌝ }
+    ensures { λ r. ⌜ r ≡ rawWeigh s i j x ⌝ }
+{
+    match s {
+        Share::Whole => x,
+        Share::I => (i as f64) * x,
+        Share::Next => ((i - 1) as f64) * x,
+        Share::J => (j as f64) * x,
+        Share::Ii => ((i - 1) as f64) * ((i as f64) * x),
+        Share::Ij => (j as f64) * ((i as f64) * x),
+        Share::Jj => ((j * (j - 1)) as f64) * x,
+    }
+}
+
+// And what the sum is divided by at its end.
+pub fn divide(s: Share, vi: f64, vj: f64, x: f64) -> f64
+    ensures { λ r. ⌜ r ≡ rawDivided s vi vj x ⌝ }
+{
+    match s {
+        Share::Whole => x,
+        Share::I => over(x, vi),
+        Share::Next => over(x, vi),
+        Share::J => over(x, vj),
+        Share::Ii => over(x, vi * vi),
+        Share::Ij => over(x, vi * vj),
+        Share::Jj => over(x, vj * vj),
+    }
+}
+
+pub fn sum_at(
+    a: Order,
+    b: Order,
+    wi: &[f64; 129],
+    wj: &[f64; 129],
+    is: &[i32],
+    js: &[i32],
+    ns: &[f64],
+) -> f64
+    requires { ⌜ (length (now is) ≡ length (now ns)) × (length (now js) ≡ length (now ns)) × T (every (covers a b widest) (rowsOf (now is) (now js) (now ns))) ⌝ }
+    ensures { λ x. ⌜ ((vi vj : Float) (r : Reach) → Stocked vi vj (now (wi .entry)) (now (wj .entry)) r
+        → T (every (covers a b r) (rowsOf (now (is .entry)) (now (js .entry)) (now (ns .entry))))
+        → x ≡ rawTotal (rawDerived a b vi vj) zeroF (rowsOf (now (is .entry)) (now (js .entry)) (now (ns .entry)))) ⌝ }
+{
+    let mut sum = 0.0;
+    let mut k = 0;
+    while k < ns.len() {
+        sum += item_at(a, b, wi, wj, is[k], js[k], ns[k]);
+        k += 1;
+    }
+    sum
+}
+
+// Two sums of one item.
+pub fn pair_at(
+    a: Order,
+    s: Share,
+    t: Share,
+    wi: &[f64; 129],
+    wj: &[f64; 129],
+    is: &[i32],
+    js: &[i32],
+    ns: &[f64],
+) -> Pair
+    requires { ⌜ (length (now is) ≡ length (now ns)) × (length (now js) ≡ length (now ns)) × T (every (covers a Order.Zero widest) (rowsOf (now is) (now js) (now ns))) ⌝ }
+    ensures { λ p. ⌜ ((vi vj : Float) (r : Reach) → Stocked vi vj (now (wi .entry)) (now (wj .entry)) r
+        → T (every (covers a Order.Zero r) (rowsOf (now (is .entry)) (now (js .entry)) (now (ns .entry))))
+        → (p .first ≡ rawTotal (rawShared a s vi vj) zeroF (rowsOf (now (is .entry)) (now (js .entry)) (now (ns .entry))))
+        × (p .second ≡ rawTotal (rawShared a t vi vj) zeroF (rowsOf (now (is .entry)) (now (js .entry)) (now (ns .entry))))) ⌝ }
+{
+    let mut first = 0.0;
+    let mut second = 0.0;
+    let mut k: usize = 0;
+    while k < ns.len() {
+        let i = is[k];
+        let j = js[k];
+        let item = item_at(a, Order::Zero, wi, wj, i, j, ns[k]);
+        first += weigh(s, i, j, item);
+        second += weigh(t, i, j, item);
+        k += 1;
+    }
+    Pair { first, second }
+}

@@ -1,0 +1,156 @@
+// The calls of algo/polynomial.rs and algo/polynomial_steps.rs, each total: columns of unequal length are refused with 7, and an
+// exponent that the power rule does not take, a vi or vj that is not finite and any step that is not, with 5.
+// The Rust's `steps` only tile a loop over the whole table, so they are dropped.
+use crate::Four;
+use crate::FourAnswer;
+use crate::Order;
+use crate::Pair;
+use crate::PairAnswer;
+use crate::Share;
+use crate::columns::Finding;
+use crate::columns::examine;
+use crate::tables::const_four;
+use crate::tables::const_pair;
+use crate::tables::const_slope;
+use common::Answer;
+use common::Refusal;
+use common::is_finite;
+use common::settle;
+ghost use mathlib.Core.Path.{_≡_};
+ghost use Rattle.common.specs.Outcome.{check};
+ghost use Rattle.common.specs.Answer.{paper};
+ghost use Rattle.algo.specs.Table.{tableRule, derived, term, termI, termII, termIJ, termJ, termJJ};
+ghost use Rattle.algo.specs.Joint.{pairOf, fourOf, pairPaper, fourPaper, pairTable, fourTable};
+
+fn table_sum(a: Order, b: Order, vi: f64, vj: f64, is: &[i32], js: &[i32], ns: &[f64]) -> Answer
+    ensures { λ r. ⌜ paper r ≡ tableRule (derived a b) vi vj (now (is .entry)) (now (js .entry)) (now (ns .entry)) ⌝ }
+{
+    match examine(a, b, is, js, ns) {
+        Finding::Taken(reach) => settle(const_slope(a, b, vi, vj, reach, is, js, ns)),
+        Finding::Refused(k) => Answer::Refused(k),
+    }
+}
+
+fn settle_pair(p: Pair) -> PairAnswer
+    ensures { λ r. ⌜ pairPaper r ≡ pairOf (check (p .first)) (check (p .second)) ⌝ }
+{
+    if is_finite(p.first) {
+        if is_finite(p.second) {
+            return PairAnswer::Value(p);
+        }
+    }
+    PairAnswer::Refused(Refusal::Step)
+}
+
+fn table_pair(
+    a: Order,
+    s: Share,
+    t: Share,
+    vi: f64,
+    vj: f64,
+    is: &[i32],
+    js: &[i32],
+    ns: &[f64],
+) -> PairAnswer
+    ensures { λ r. ⌜ pairPaper r ≡ pairTable a s t vi vj (now (is .entry)) (now (js .entry)) (now (ns .entry)) ⌝ }
+{
+    match examine(a, Order::Zero, is, js, ns) {
+        Finding::Taken(reach) => settle_pair(const_pair(a, s, t, vi, vj, reach, is, js, ns)),
+        Finding::Refused(k) => PairAnswer::Refused(k),
+    }
+}
+
+fn settle_four(p: Four) -> FourAnswer
+    ensures { λ r. ⌜ fourPaper r ≡ fourOf (check (p .i)) (check (p .ii)) (check (p .ij)) (check (p .jj)) ⌝ }
+{
+    if is_finite(p.i) {
+        if is_finite(p.ii) {
+            if is_finite(p.ij) {
+                if is_finite(p.jj) {
+                    return FourAnswer::Value(p);
+                }
+            }
+        }
+    }
+    FourAnswer::Refused(Refusal::Step)
+}
+
+// n*vi^I*vj^J
+pub fn poly_powi(vi: f64, vj: f64, is: &[i32], js: &[i32], ns: &[f64]) -> Answer
+    ensures { λ r. ⌜ paper r ≡ tableRule term vi vj (now (is .entry)) (now (js .entry)) (now (ns .entry)) ⌝ }
+{
+    table_sum(Order::Zero, Order::Zero, vi, vj, is, js, ns)
+}
+
+// Derived by vi.
+pub fn poly_i_powi(vi: f64, vj: f64, is: &[i32], js: &[i32], ns: &[f64]) -> Answer
+    ensures { λ r. ⌜ paper r ≡ tableRule termI vi vj (now (is .entry)) (now (js .entry)) (now (ns .entry)) ⌝ }
+{
+    table_sum(Order::One, Order::Zero, vi, vj, is, js, ns)
+}
+
+// Derived twice by vi.
+pub fn poly_ii_powi(vi: f64, vj: f64, is: &[i32], js: &[i32], ns: &[f64]) -> Answer
+    ensures { λ r. ⌜ paper r ≡ tableRule termII vi vj (now (is .entry)) (now (js .entry)) (now (ns .entry)) ⌝ }
+{
+    table_sum(Order::Two, Order::Zero, vi, vj, is, js, ns)
+}
+
+// Derived by vi and vj.
+pub fn poly_ij_powi(vi: f64, vj: f64, is: &[i32], js: &[i32], ns: &[f64]) -> Answer
+    ensures { λ r. ⌜ paper r ≡ tableRule termIJ vi vj (now (is .entry)) (now (js .entry)) (now (ns .entry)) ⌝ }
+{
+    table_sum(Order::One, Order::One, vi, vj, is, js, ns)
+}
+
+// Derived by vj.
+pub fn poly_j_powi(vi: f64, vj: f64, is: &[i32], js: &[i32], ns: &[f64]) -> Answer
+    ensures { λ r. ⌜ paper r ≡ tableRule termJ vi vj (now (is .entry)) (now (js .entry)) (now (ns .entry)) ⌝ }
+{
+    table_sum(Order::Zero, Order::One, vi, vj, is, js, ns)
+}
+
+// Derived twice by vj.
+pub fn poly_jj_powi(vi: f64, vj: f64, is: &[i32], js: &[i32], ns: &[f64]) -> Answer
+    ensures { λ r. ⌜ paper r ≡ tableRule termJJ vi vj (now (is .entry)) (now (js .entry)) (now (ns .entry)) ⌝ }
+{
+    table_sum(Order::Zero, Order::Two, vi, vj, is, js, ns)
+}
+
+// The sum, and derived by vj.
+pub fn polys_0_j_powi(vi: f64, vj: f64, is: &[i32], js: &[i32], ns: &[f64]) -> PairAnswer
+    ensures { λ r. ⌜ pairPaper r ≡ pairTable Order.Zero Share.Whole Share.J vi vj (now (is .entry)) (now (js .entry)) (now (ns .entry)) ⌝ }
+{
+    table_pair(Order::Zero, Share::Whole, Share::J, vi, vj, is, js, ns)
+}
+
+// Derived by vi, and by vj.
+pub fn polys_i_j_powi(vi: f64, vj: f64, is: &[i32], js: &[i32], ns: &[f64]) -> PairAnswer
+    ensures { λ r. ⌜ pairPaper r ≡ pairTable Order.Zero Share.I Share.J vi vj (now (is .entry)) (now (js .entry)) (now (ns .entry)) ⌝ }
+{
+    table_pair(Order::Zero, Share::I, Share::J, vi, vj, is, js, ns)
+}
+
+// Derived by vi, and by vi and vj.
+pub fn polys_i_ij_powi(vi: f64, vj: f64, is: &[i32], js: &[i32], ns: &[f64]) -> PairAnswer
+    ensures { λ r. ⌜ pairPaper r ≡ pairTable Order.One Share.Whole Share.J vi vj (now (is .entry)) (now (js .entry)) (now (ns .entry)) ⌝ }
+{
+    table_pair(Order::One, Share::Whole, Share::J, vi, vj, is, js, ns)
+}
+
+// Derived by vi, and twice by vi.
+pub fn polys_i_ii_powi(vi: f64, vj: f64, is: &[i32], js: &[i32], ns: &[f64]) -> PairAnswer
+    ensures { λ r. ⌜ pairPaper r ≡ pairTable Order.One Share.Whole Share.Next vi vj (now (is .entry)) (now (js .entry)) (now (ns .entry)) ⌝ }
+{
+    table_pair(Order::One, Share::Whole, Share::Next, vi, vj, is, js, ns)
+}
+
+// Derived by vi, twice by vi, by vi and vj, and twice by vj.
+pub fn polys_i_ii_ij_jj_powi(vi: f64, vj: f64, is: &[i32], js: &[i32], ns: &[f64]) -> FourAnswer
+    ensures { λ r. ⌜ fourPaper r ≡ fourTable vi vj (now (is .entry)) (now (js .entry)) (now (ns .entry)) ⌝ }
+{
+    match examine(Order::Zero, Order::Zero, is, js, ns) {
+        Finding::Taken(reach) => settle_four(const_four(vi, vj, reach, is, js, ns)),
+        Finding::Refused(k) => FourAnswer::Refused(k),
+    }
+}

@@ -1,0 +1,22 @@
+-- `backward::sum_t3a_ph` meets its contract: antt computes that the columns are the table's, the bits of each literal those of its decimal.
+-- Assumes nothing.
+use mathlib.Core.Path.{refl}
+use lib.Ieee.{ofBits}
+use borrow.Author.Needs.{needs}
+use Rattle.common.specs.Sum.{every}
+use Rattle.common.specs.Decimal.{more, less, scaled}
+use Rattle.algo.specs.Table.{rowsOf}
+use Rattle.backward.specs.Printed.{table-t3a-ph}
+use Rattle.backward.proofs.columns.sum_t3a_ph.Statement.{statement}
+use Rattle.backward.proofs.columns.sum_t3a_ph.Tie as tie
+
+pub sum-t3a-ph-spec : {M : Type 1} → statement M
+unfolding rowsOf every table-t3a-ph more less scaled ofBits
+sum-t3a-ph-spec =
+    tie.close
+    (tie.spec
+    (λ c. search needs)
+    (λ c. search needs)
+    (λ c. search needs)
+    (λ c κs. (refl, refl, tt))
+    (λ c. c .const-sum .ensures))

@@ -1,0 +1,23 @@
+-- `backward::ph2v_reg3` meets its contract: the box, then the equation and the test of what it gives. Assumes nothing.
+use mathlib.Core.Path.{sym, ap, _∙_}
+use borrow.Author.Needs.{needs}
+use Rattle.common.proofs.Calls.{going-on, turned-away}
+use Rattle.state.specs.State.{volumeOf}
+use Rattle.backward.specs.Backward.{ph2v-reg3Rule}
+use Rattle.backward.proofs.region3_Tv_phps.ph2v_reg3.Statement.{statement}
+use Rattle.backward.proofs.region3_Tv_phps.ph2v_reg3.Tie as tie
+
+returns : tie.Need-returns
+unfolding ph2v-reg3Rule
+returns c =
+    let s = c .before .before in
+    c .settle-v .ensures ∙ ap volumeOf (c .before .raw-ph .ensures) ∙ sym (going-on (s .before .before .check-ph .ensures) _ (s .enum-told .given .1))
+
+returns-2 : tie.Need-returns-2
+unfolding ph2v-reg3Rule
+returns-2 c = sym (turned-away (c .before .before .before .check-ph .ensures) _ _ (c .before .k .given .1))
+
+pub ph2v-reg3-spec : {M : Type 1} → statement M
+ph2v-reg3-spec =
+    tie.close
+    (tie.spec (λ c κs. search needs) (λ c. search needs) (λ c κs. search needs) (λ c κs. search needs) (λ c. search needs) returns returns-2)

@@ -1,0 +1,26 @@
+-- `helmholtz::region3_Td_ext::pressed` meets its contract. Assumes nothing.
+use borrow.Author.Needs.{needs}
+use Rattle.helmholtz.proofs.region3_Td_ext.pressed.Statement.{statement}
+use Rattle.helmholtz.proofs.region3_Td_ext.pressed.Tie as tie
+
+settle-p-requires : tie.Need-settle-p-requires
+settle-p-requires c κs = search needs
+
+enum-told : tie.Need-enum-told
+enum-told c = search needs
+
+settle-requires : tie.Need-settle-requires
+settle-requires c κs = search needs
+
+enum-known-k : tie.Need-enum-known-k
+enum-known-k c = search needs
+
+returns : tie.Need-returns
+returns c = rw (← c .before .before .before .settle-p .ensures, c .before .enum-told .given .1) (c .settle .ensures)
+
+returns-2 : tie.Need-returns-2
+returns-2 c = rw (← c .before .before .before .settle-p .ensures, c .before .k .given .1)
+
+pub pressed-spec : {M : Type 1} → statement M
+pressed-spec =
+    tie.close (tie.spec settle-p-requires enum-told settle-requires enum-known-k returns returns-2)

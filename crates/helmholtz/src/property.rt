@@ -1,0 +1,265 @@
+// The properties at a T and a d: each by itself, and by its number. The checks 1, 2, 3 come before a formula's own steps.
+use crate::region3_Td::raw_cp;
+use crate::region3_Td::raw_cv;
+use crate::region3_Td::raw_h;
+use crate::region3_Td::raw_s;
+use crate::region3_Td::raw_u;
+use crate::region3_Td::raw_v;
+use crate::region3_Td::raw_w;
+use crate::region3_Td_ext::raw_dpdtcv;
+use crate::region3_Td_ext::raw_dvdpct;
+use crate::region3_Td_ext::raw_dvdtcp;
+use crate::region3_Td_ext::raw_e;
+use crate::region3_Td_ext::raw_ec;
+use crate::region3_Td_ext::raw_f;
+use crate::region3_Td_ext::raw_fi;
+use crate::region3_Td_ext::raw_g;
+use crate::region3_Td_ext::raw_iJTC;
+use crate::region3_Td_ext::raw_joule;
+use crate::region3_Td_ext::raw_kt;
+use crate::region3_Td_ext::state_alfap;
+use crate::region3_Td_ext::state_batap;
+use crate::region3_Td_ext::state_fu;
+use crate::region3_Td_ext::state_ks;
+use crate::region3_Td_ext::state_p;
+use crate::region3_Td_ext::state_pc;
+use crate::region3_Td_ext::state_z;
+use common::Answer;
+use common::Kelvin;
+use common::KgPerM3;
+use common::OALFAP;
+use common::OBETAP;
+use common::OCP;
+use common::OCV;
+use common::ODPDT;
+use common::ODVDP;
+use common::ODVDT;
+use common::OE;
+use common::OEC;
+use common::OF;
+use common::OFI;
+use common::OFU;
+use common::OG;
+use common::OH;
+use common::OIJTC;
+use common::OJTC;
+use common::OKS;
+use common::OKT;
+use common::OP;
+use common::OPC;
+use common::OS;
+use common::OU;
+use common::OV;
+use common::OW;
+use common::OZ;
+use common::Refusal;
+use common::Verdict;
+use common::check_Td;
+use common::settle;
+ghost use mathlib.Core.Path.{_≡_};
+ghost use Rattle.common.specs.Outcome.{check};
+ghost use Rattle.common.specs.Answer.{paper};
+ghost use Rattle.helmholtz.specs.Td.{Td2v, Td2h, Td2s, Td2u, Td2cv, Td2cp, Td2w, statePressure};
+ghost use Rattle.helmholtz.specs.Ext.{Td2f, Td2g, Td2z, Td2ks, Td2kt, Td2ec, Td2joule, Td2iJTC, Td2pc, Td2dvdpct, Td2dpdtcv, Td2dvdtcp, Td2e, Td2batap, Td2fi, Td2fu, Td2alfap};
+ghost use Rattle.helmholtz.specs.Property.{boxed, called, propertyRule};
+
+// The checks of the call, then what its formula answers.
+fn answered(t: Kelvin, d: KgPerM3, a: Answer) -> Answer
+    ensures { λ r. ⌜ paper r ≡ boxed (t .0) (d .0) (paper a) ⌝ }
+{
+    match check_Td(t, d) {
+        Verdict::Accepted => a,
+        Verdict::Refused(k) => Answer::Refused(k),
+    }
+}
+
+// The same of a formula's raw number.
+fn settled(t: Kelvin, d: KgPerM3, x: f64) -> Answer
+    ensures { λ r. ⌜ paper r ≡ boxed (t .0) (d .0) (check x) ⌝ }
+{
+    answered(t, d, settle(x))
+}
+
+// A property by its number: 6 for any other number, before 1, 2, 3.
+pub fn Td_thermal_reg3(t: Kelvin, d: KgPerM3, o_id: i32) -> Answer
+    ensures { λ r. ⌜ paper r ≡ propertyRule «o_id» (t .0) (d .0) ⌝ }
+{
+    match o_id {
+        OP => answered(t, d, state_p(t.0, d.0)),
+        OV => settled(t, d, raw_v(t.0, d.0)),
+        OH => settled(t, d, raw_h(t.0, d.0)),
+        OS => settled(t, d, raw_s(t.0, d.0)),
+        OE => settled(t, d, raw_e(t.0, d.0)),
+        OU => settled(t, d, raw_u(t.0, d.0)),
+        OCP => settled(t, d, raw_cp(t.0, d.0)),
+        OCV => settled(t, d, raw_cv(t.0, d.0)),
+        OW => settled(t, d, raw_w(t.0, d.0)),
+        OKS => answered(t, d, state_ks(t.0, d.0)),
+        OF => settled(t, d, raw_f(t.0, d.0)),
+        OG => settled(t, d, raw_g(t.0, d.0)),
+        OZ => answered(t, d, state_z(t.0, d.0)),
+        OEC => settled(t, d, raw_ec(t.0, d.0)),
+        OKT => settled(t, d, raw_kt(t.0, d.0)),
+        ODVDT => settled(t, d, raw_dvdtcp(t.0, d.0)),
+        ODVDP => settled(t, d, raw_dvdpct(t.0, d.0)),
+        ODPDT => settled(t, d, raw_dpdtcv(t.0, d.0)),
+        OIJTC => settled(t, d, raw_iJTC(t.0, d.0)),
+        OJTC => settled(t, d, raw_joule(t.0, d.0)),
+        OPC => answered(t, d, state_pc(t.0, d.0)),
+        OBETAP => answered(t, d, state_batap(t.0, d.0)),
+        OFI => settled(t, d, raw_fi(t.0, d.0)),
+        OFU => answered(t, d, state_fu(t.0, d.0)),
+        OALFAP => answered(t, d, state_alfap(t.0, d.0)),
+        _ => Answer::Refused(Refusal::Property),
+    }
+}
+
+pub fn Td2p_reg3(t: Kelvin, d: KgPerM3) -> Answer
+    ensures { λ r. ⌜ paper r ≡ called statePressure (t .0) (d .0) ⌝ }
+{
+    Td_thermal_reg3(t, d, OP)
+}
+
+pub fn Td2v_reg3(t: Kelvin, d: KgPerM3) -> Answer
+    ensures { λ r. ⌜ paper r ≡ called Td2v (t .0) (d .0) ⌝ }
+{
+    Td_thermal_reg3(t, d, OV)
+}
+
+pub fn Td2h_reg3(t: Kelvin, d: KgPerM3) -> Answer
+    ensures { λ r. ⌜ paper r ≡ called Td2h (t .0) (d .0) ⌝ }
+{
+    Td_thermal_reg3(t, d, OH)
+}
+
+pub fn Td2s_reg3(t: Kelvin, d: KgPerM3) -> Answer
+    ensures { λ r. ⌜ paper r ≡ called Td2s (t .0) (d .0) ⌝ }
+{
+    Td_thermal_reg3(t, d, OS)
+}
+
+pub fn Td2e_reg3(t: Kelvin, d: KgPerM3) -> Answer
+    ensures { λ r. ⌜ paper r ≡ called Td2e (t .0) (d .0) ⌝ }
+{
+    Td_thermal_reg3(t, d, OE)
+}
+
+pub fn Td2u_reg3(t: Kelvin, d: KgPerM3) -> Answer
+    ensures { λ r. ⌜ paper r ≡ called Td2u (t .0) (d .0) ⌝ }
+{
+    Td_thermal_reg3(t, d, OU)
+}
+
+pub fn Td2cp_reg3(t: Kelvin, d: KgPerM3) -> Answer
+    ensures { λ r. ⌜ paper r ≡ called Td2cp (t .0) (d .0) ⌝ }
+{
+    Td_thermal_reg3(t, d, OCP)
+}
+
+pub fn Td2cv_reg3(t: Kelvin, d: KgPerM3) -> Answer
+    ensures { λ r. ⌜ paper r ≡ called Td2cv (t .0) (d .0) ⌝ }
+{
+    Td_thermal_reg3(t, d, OCV)
+}
+
+pub fn Td2w_reg3(t: Kelvin, d: KgPerM3) -> Answer
+    ensures { λ r. ⌜ paper r ≡ called Td2w (t .0) (d .0) ⌝ }
+{
+    Td_thermal_reg3(t, d, OW)
+}
+
+pub fn Td2ks_reg3(t: Kelvin, d: KgPerM3) -> Answer
+    ensures { λ r. ⌜ paper r ≡ called Td2ks (t .0) (d .0) ⌝ }
+{
+    Td_thermal_reg3(t, d, OKS)
+}
+
+pub fn Td2f_reg3(t: Kelvin, d: KgPerM3) -> Answer
+    ensures { λ r. ⌜ paper r ≡ called Td2f (t .0) (d .0) ⌝ }
+{
+    Td_thermal_reg3(t, d, OF)
+}
+
+pub fn Td2g_reg3(t: Kelvin, d: KgPerM3) -> Answer
+    ensures { λ r. ⌜ paper r ≡ called Td2g (t .0) (d .0) ⌝ }
+{
+    Td_thermal_reg3(t, d, OG)
+}
+
+pub fn Td2z_reg3(t: Kelvin, d: KgPerM3) -> Answer
+    ensures { λ r. ⌜ paper r ≡ called Td2z (t .0) (d .0) ⌝ }
+{
+    Td_thermal_reg3(t, d, OZ)
+}
+
+pub fn Td2ec_reg3(t: Kelvin, d: KgPerM3) -> Answer
+    ensures { λ r. ⌜ paper r ≡ called Td2ec (t .0) (d .0) ⌝ }
+{
+    Td_thermal_reg3(t, d, OEC)
+}
+
+pub fn Td2kt_reg3(t: Kelvin, d: KgPerM3) -> Answer
+    ensures { λ r. ⌜ paper r ≡ called Td2kt (t .0) (d .0) ⌝ }
+{
+    Td_thermal_reg3(t, d, OKT)
+}
+
+pub fn Td2dvdtcp_reg3(t: Kelvin, d: KgPerM3) -> Answer
+    ensures { λ r. ⌜ paper r ≡ called Td2dvdtcp (t .0) (d .0) ⌝ }
+{
+    Td_thermal_reg3(t, d, ODVDT)
+}
+
+pub fn Td2dvdpct_reg3(t: Kelvin, d: KgPerM3) -> Answer
+    ensures { λ r. ⌜ paper r ≡ called Td2dvdpct (t .0) (d .0) ⌝ }
+{
+    Td_thermal_reg3(t, d, ODVDP)
+}
+
+pub fn Td2dpdtcv_reg3(t: Kelvin, d: KgPerM3) -> Answer
+    ensures { λ r. ⌜ paper r ≡ called Td2dpdtcv (t .0) (d .0) ⌝ }
+{
+    Td_thermal_reg3(t, d, ODPDT)
+}
+
+pub fn Td2iJTC_reg3(t: Kelvin, d: KgPerM3) -> Answer
+    ensures { λ r. ⌜ paper r ≡ called Td2iJTC (t .0) (d .0) ⌝ }
+{
+    Td_thermal_reg3(t, d, OIJTC)
+}
+
+pub fn Td2joule_reg3(t: Kelvin, d: KgPerM3) -> Answer
+    ensures { λ r. ⌜ paper r ≡ called Td2joule (t .0) (d .0) ⌝ }
+{
+    Td_thermal_reg3(t, d, OJTC)
+}
+
+pub fn Td2pc_reg3(t: Kelvin, d: KgPerM3) -> Answer
+    ensures { λ r. ⌜ paper r ≡ called Td2pc (t .0) (d .0) ⌝ }
+{
+    Td_thermal_reg3(t, d, OPC)
+}
+
+pub fn Td2batap_reg3(t: Kelvin, d: KgPerM3) -> Answer
+    ensures { λ r. ⌜ paper r ≡ called Td2batap (t .0) (d .0) ⌝ }
+{
+    Td_thermal_reg3(t, d, OBETAP)
+}
+
+pub fn Td2fi_reg3(t: Kelvin, d: KgPerM3) -> Answer
+    ensures { λ r. ⌜ paper r ≡ called Td2fi (t .0) (d .0) ⌝ }
+{
+    Td_thermal_reg3(t, d, OFI)
+}
+
+pub fn Td2fu_reg3(t: Kelvin, d: KgPerM3) -> Answer
+    ensures { λ r. ⌜ paper r ≡ called Td2fu (t .0) (d .0) ⌝ }
+{
+    Td_thermal_reg3(t, d, OFU)
+}
+
+pub fn Td2alfap_reg3(t: Kelvin, d: KgPerM3) -> Answer
+    ensures { λ r. ⌜ paper r ≡ called Td2alfap (t .0) (d .0) ⌝ }
+{
+    Td_thermal_reg3(t, d, OALFAP)
+}

@@ -1,0 +1,22 @@
+-- `tables::sum_3c` meets its contract: antt computes that the columns are the table's, the bits of each literal those of its decimal.
+-- Assumes nothing.
+use mathlib.Core.Path.{refl}
+use lib.Ieee.{ofBits}
+use borrow.Author.Needs.{needs}
+use Rattle.common.specs.Sum.{every}
+use Rattle.common.specs.Decimal.{more, less, scaled}
+use Rattle.algo.specs.Table.{rowsOf}
+use Rattle.tables.specs.Printed.{table3c}
+use Rattle.tables.proofs.columns.sum_3c.Statement.{statement}
+use Rattle.tables.proofs.columns.sum_3c.Tie as tie
+
+pub sum-3c-spec : {M : Type 1} → statement M
+unfolding rowsOf every table3c more less scaled ofBits
+sum-3c-spec =
+    tie.close
+    (tie.spec
+    (λ c. search needs)
+    (λ c. search needs)
+    (λ c. search needs)
+    (λ c κs. (refl, refl, tt))
+    (λ c. c .const-sum .ensures))

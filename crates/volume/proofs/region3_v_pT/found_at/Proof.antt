@@ -1,0 +1,63 @@
+-- `volume::found_at` meets its contract: the critical point, then the letter's equation. Assumes nothing.
+use mathlib.Core.Path.{_≡_, refl, sym, ap, _∙_}
+use mathlib.Core.Bool.{Bool, true, false}
+use lib.Ieee.{Float, div, ofBits, round}
+use borrow.Author.Needs.{needs}
+use Rattle.common.specs.Outcome.{Outcome, value, refused, then, pick}
+use Rattle.common.specs.Answer.{numberOf}
+use Rattle.common.specs.Decimal.{decimal, whole, scaled}
+use Rattle.letter.specs.Letter.{chosen}
+use Rattle.letter.specs.declared.Letter.{Letter}
+use Rattle.letter.specs.declared.Choice.{Choice}
+use Rattle.boundary.specs.Choice.{letterAt, letterRule}
+use Rattle.volume.specs.declared.Origin.the-variants.{Subregion}
+use Rattle.volume.specs.Equation.{volumeAt}
+use Rattle.volume.specs.Found.{State, stateOf, atCritical, foundAt}
+use Rattle.volume.proofs.region3_v_pT.found_at.Statement.{statement}
+use Rattle.volume.proofs.region3_v_pT.found_at.Tie as tie
+
+returns : tie.Need-returns
+unfolding foundAt ofBits decimal whole scaled round
+returns c =
+    let s = c .before .before in
+    let a = s .before .args in
+    let b : atCritical (a .p .0) (a .t .0) ≡ value true = sym (s .at-critical .ensures) ∙ ap value (c .before .if1 .taken) in
+    rw b (c .found .ensures)
+
+-- the rule where the point is not critical, from the letter that was chosen
+chosen-by : (c : tie.After-sub-region3-pT) (k : Choice) → c .sub-region3-pT .result ≡ k
+    → foundAt (c .before .before .before .args .p .0) (c .before .before .before .args .t .0)
+    ≡ then (chosen k) (λ l. stateOf (Subregion l) (volumeAt l (c .before .before .before .args .p .0) (c .before .before .before .args .t .0)))
+unfolding foundAt letterRule
+chosen-by c k e =
+    let s = c .before .before in
+    let a = s .before .args in
+    let b : atCritical (a .p .0) (a .t .0) ≡ value false = sym (s .at-critical .ensures) ∙ ap value (c .before .if1 .left) in
+    let l : letterRule (a .p .0) (a .t .0) ≡ letterAt (a .p .0) (a .t .0) = rw (s .before .pre) in
+    let h : letterAt (a .p .0) (a .t .0) ≡ chosen k = sym l ∙ sym (c .sub-region3-pT .ensures) ∙ ap chosen e in
+    rw (b, h)
+
+returns-2 : tie.Need-returns-2
+returns-2 c =
+    let k = c .before .before .before in
+    c .found2 .ensures
+    ∙ ap (stateOf (Subregion (k .l .given .0 .0))) (c .before .raw-volume .ensures)
+    ∙ sym (chosen-by (k .before .before) _ (k .l .given .1))
+
+returns-3 : tie.Need-returns-3
+returns-3 c = sym (chosen-by (c .before .before .before) _ (c .before .k .given .1))
+
+pub found-at-spec : {M : Type 1} → statement M
+found-at-spec =
+    tie.close
+    (tie.spec
+    (λ c κs. search needs)
+    (λ c κs. search needs)
+    returns
+    (λ c κs. search needs)
+    (λ c. search needs)
+    (λ c κs. search needs)
+    (λ c κs. search needs)
+    (λ c. search needs)
+    returns-2
+    returns-3)

@@ -1,0 +1,32 @@
+-- `volume::pT2v_sat_reg3` meets its contract: the ranges of the saturation line, then the volume with its density. Assumes nothing.
+use mathlib.Core.Path.{sym, ap, _∙_}
+use lib.Ieee.{ofBits}
+use borrow.Author.Needs.{needs}
+use Rattle.common.specs.Decimal.{decimal, whole, scaled}
+use Rattle.common.proofs.Calls.{going-on, turned-away}
+use Rattle.state.specs.State.{volumeOf}
+use Rattle.letter.specs.declared.Letter.{Letter}
+use Rattle.volume.specs.Equation.{volumeAt}
+use Rattle.volume.specs.Found.{pT2v-sat-reg3Rule}
+use Rattle.volume.proofs.region3_v_pT.pT2v_sat_reg3.Statement.{statement}
+use Rattle.volume.proofs.region3_v_pT.pT2v_sat_reg3.Tie as tie
+
+returns : tie.Need-returns
+unfolding pT2v-sat-reg3Rule ofBits decimal scaled
+returns c =
+    let s = c .before .before .before in
+    let a = s .before .before .before .args in
+    c .settle-v .ensures
+    ∙ ap volumeOf (c .before .raw-volume .ensures ∙ ap (λ (l : Letter). volumeAt l (a .p .0) (a .t .0)) (c .before .before .saturated .ensures))
+    ∙ sym (going-on (s .before .before .check-pair .ensures) _ (s .enum-told .given .1))
+
+returns-2 : tie.Need-returns-2
+unfolding pT2v-sat-reg3Rule ofBits decimal scaled
+returns-2 c = sym (turned-away (c .before .before .before .check-pair .ensures) _ _ (c .before .k .given .1))
+
+pub pT2v-sat-reg3-spec : {M : Type 1} → statement M
+pT2v-sat-reg3-spec =
+    tie.close
+    (tie.spec
+    (λ c κs. search needs) (λ c. search needs) (λ c κs. search needs) (λ c κs. search needs) (λ c κs. search needs) (λ c. search needs)
+    returns returns-2)
