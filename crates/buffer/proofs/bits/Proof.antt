@@ -1,0 +1,29 @@
+-- `buffer::bits` meets its contract: only a NaN differs from itself. Assumes nothing.
+use mathlib.Core.Path.{_≡_, sym, ap, subst, _∙_}
+use mathlib.Core.Bool.{Bool, true, false, not}
+use lib.Dec.{T}
+use lib.Ieee.{Float, nan, inf, fin, binary64, isNan, ne, toBits}
+use lib.Ieee.Compare.{differs-from-itself, nan-differs}
+use borrow.Author.Needs.{needs}
+use Rattle.common.proofs.Laws.{never}
+use Rattle.buffer.proofs.bits.Statement.{statement}
+use Rattle.buffer.proofs.bits.Tie as tie
+
+number : (x : Float) → ne x x ≡ false → T (not (isNan x))
+unfolding isNan
+number nan h = never (sym nan-differs ∙ h)
+number (inf s) h = tt
+number (fin s m e) h = tt
+
+returns : tie.Need-returns
+unfolding toBits
+returns c = ap (toBits binary64) (sym (differs-from-itself (c .before .args .x) (subst T (sym (c .if1 .taken)) tt)))
+
+float-to-bits-result : tie.Need-float-to-bits-result
+float-to-bits-result c = number (c .before .args .x) (c .if1 .left)
+
+returns-2 : tie.Need-returns-2
+returns-2 c = search needs
+
+pub bits-spec : {M : Type 1} → statement M
+bits-spec = tie.close (tie.spec float-to-bits-result returns returns-2)

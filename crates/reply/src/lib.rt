@@ -1,0 +1,34 @@
+// The entry points by number, for the programs that run them over rows of bytes.
+mod entries;
+mod page;
+mod shape;
+mod stored;
+
+use entries::by_lines;
+use entries::by_rules;
+pub use page::answer_rows;
+use shape::UNKNOWN;
+use shape::refused;
+pub use stored::agrees;
+ghost use mathlib.Core.Path.{_≡_};
+ghost use Rattle.reply.specs.Entries.{replyRule};
+
+// What a call answers: the refusal's number or 0, the letter in ASCII or 0, and up to ten numbers.
+pub struct Reply {
+    pub refusal: u8,
+    pub letter: u8,
+    pub numbers: [f64; 10],
+}
+
+// A group of entries ends with its highest number.
+pub fn answer(entry: u8, n: i32, a: f64, b: f64) -> Reply
+    ensures { λ r. ⌜ r ≡ replyRule entry n a b ⌝ }
+{
+    if entry <= 4 {
+        return by_rules(entry, n, a);
+    }
+    if entry <= 8 {
+        return by_lines(entry, n, a, b);
+    }
+    refused(UNKNOWN)
+}
