@@ -128,17 +128,23 @@ def crate(name, document, tables):
     """tables: key, what the document calls it, rows, how many of them are summed"""
     specs = {key: ('table' + key if key[0] == '3' else 'table-' + key.replace('_', '-')) for key, _, _, _ in tables}
     summed = {key: (f'(take {n} {specs[key]})' if n != len(rows) else specs[key]) for key, _, rows, n in tables}
+    short = any(key == '3z' for key in specs)
     text = f'''-- The tables of {document}, as printed: a row has I, J and n = 0.digits * 10^e. Assumes nothing: these are definitions.
-use Prim.Native.Nat.{{ℕ}}
-use mathlib.Core.Bool.{{true, false}}
-use mathlib.Core.List.{{List, [], _∷_}}
-use lib.IntN.{{ℤ, pos}}
-use lib.Ieee.{{Float}}
-use Rattle.common.specs.Decimal.{{more, less, scaled, minus}}
+'''
+    if short:
+        text += '''use Prim.Native.Nat.{ℕ}
+use mathlib.Core.Bool.{true, false}
+'''
+    text += f'''use mathlib.Core.List.{{List, [], _∷_}}
+use lib.IntN.{{{'ℤ, ' if short else ''}pos}}
+'''
+    if short:
+        text += 'use lib.Ieee.{Float}\n'
+    text += f'''use Rattle.common.specs.Decimal.{{more, less, {'scaled, ' if short else ''}minus}}
 use Rattle.algo.specs.Table.{{Row, row}}
 
 '''
-    if any(key == '3z' for key in specs):
+    if short:
         text += '''-- The Rust has 14 digits in letter z, where the document prints 15.
 abbrev more14 : ℕ → ℤ → Float
 more14 digits e = scaled false digits 14 e
@@ -149,12 +155,12 @@ less14 digits e = scaled true digits 14 e
 '''
     text += '\n'.join(spec_table(specs[key], what, rows) for key, what, rows, _ in tables)
     write(f'crates/{name}/specs/Printed.antt', text)
+    cut = 'ghost use lib.ListN.{take};\n' if any(n != len(rows) for _, _, rows, n in tables) else ''
     code = f'''// The tables of {document} by column, and the sum of each. specs/Printed.antt has their rows as printed.
 use algo::Reach;
 use algo::const_sum;
 ghost use mathlib.Core.Path.{{_≡_}};
-ghost use lib.ListN.{{take}};
-ghost use Rattle.common.specs.Outcome.{{orNan}};
+{cut}ghost use Rattle.common.specs.Outcome.{{orNan}};
 ghost use Rattle.algo.specs.Table.{{sumRule, term}};
 ghost use Rattle.{name}.specs.Printed.{{{', '.join(specs.values())}}};
 

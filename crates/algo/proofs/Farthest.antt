@@ -5,7 +5,7 @@ use mathlib.Core.List.{List, [], _∷_}
 use Prim.Native.Nat.{ℕ, zero, suc, _+_, _-_, _^_, _<_, _≤_}
 use native.Mathlib.Omega.{arith}
 use native.Mathlib.Numerals.{add-one}
-use lib.Dec.{T, ltb, leb, leb→le, le→leb, ltb→lt, lt→ltb}
+use lib.Dec.{T, ltb, leb, leb→le, le→leb, lt→ltb}
 use lib.IntN.{ℤ, pos, negsuc, negℤ, natAbs, _-ℤ_}
 use lib.ListN.{length, drop, getD, drop-of-length-le}
 use lib.Seq.{drop-cons}
@@ -23,6 +23,7 @@ use Rattle.algo.specs.declared.Order.{Order}
 use Rattle.algo.specs.declared.Order.the-variants.{Zero, One, Two}
 use Rattle.algo.specs.declared.Reach.{Reach}
 use Rattle.algo.proofs.Reaches.{both-make, every-map}
+use Rattle.algo.proofs.Whole.{neg-abs}
 
 -- ---- the most of a column
 
@@ -248,10 +249,6 @@ passed-more ks k top low top' low' h l p q w =
       falls = sym (farthest-more downOf (w .down) ks k h) ∙ w .falls;
       small = down-small (w .down) z (w .small) l;
     }
-
-neg-abs : (n : ℕ) → natAbs (negℤ (pos n)) ≡ n
-neg-abs zero = refl
-neg-abs (suc n) = refl
 
 pub passed-all : (ks : List ℤ) (k : ℕ) (top low : ℤ) → length ks ≤ k → Passed ks k top low
     → (natAbs top ≡ farthest upOf 0 ks) × (natAbs low ≡ farthest downOf 0 ks) × (natAbs low ≤ 2 ^ 31)

@@ -1,6 +1,6 @@
 -- The outcome of a step is a finite number or refusal 5, so it is the check of its number: a caller of a raw form, which gives
 -- `orNan` of a rule, goes over to the rule by it. Assumes nothing.
-use mathlib.Core.Path.{_≡_, refl, sym}
+use mathlib.Core.Path.{_≡_, refl}
 use mathlib.Core.Bool.{Bool, true, false}
 use mathlib.Core.List.{List, [], _∷_}
 use lib.Dec.{leb}

@@ -4,13 +4,13 @@ use mathlib.Core.Path.{_≡_, refl, sym, ap, _∙_, subst}
 use mathlib.Core.Bool.{Bool, true, false}
 use mathlib.Core.List.{List, [], _∷_}
 use lib.Dec.{T, leb}
-use lib.IntN.{ℤ, pos, natAbs, _-ℤ_, _*ℤ_}
-use lib.Ieee.{Float, nan, inf, fin, binary64, add, mul, div, ofInt}
+use lib.IntN.{ℤ, pos, natAbs, _-ℤ_}
+use lib.Ieee.{Float, nan, inf, fin, binary64, add, mul}
 use Rattle.common.specs.Outcome.{Outcome, refused, finite, check, then, orNan, zeroF}
 use Rattle.common.specs.Sum.{both, total, rawTotal, every}
-use Rattle.common.proofs.Laws.{Lost, never, mul-left, mul-right, div-left, check-lost, check-kept, inside-check, next, step}
+use Rattle.common.proofs.Laws.{Lost, never, mul-left, mul-right, div-left, check-kept, inside-check, next, step}
 use Rattle.common.proofs.Sums.{both-left, both-right, T-true, total-check}
-use Rattle.rules.specs.Power.{powerRule, rawPower, kept}
+use Rattle.rules.specs.Power.{powerRule, rawPower}
 use Rattle.rules.proofs.Powers.{power-check}
 use Rattle.algo.specs.Table.{Row, row, raised, left, factor, derived, sumRule}
 use Rattle.algo.specs.Joint.{timesWhole, weigh, over, divided, shared, shareRule}
@@ -28,15 +28,14 @@ raised-check v k x fv s =
     rw (power-check v k fv (T-true (leb (natAbs k) 64) s), inside-check p)
     (step p (λ p. check (mul binary64 x p)) (mul binary64 x) (λ _. refl) (mul-right x p))
 
+-- after a step that gives y
+after-check : (y v : Float) (k : ℤ) → finite v ≡ true → T (leb (natAbs k) 64) → then (check y) (raised v k) ≡ check (mul binary64 y (rawPower v k))
+after-check y v k fv s = step y (raised v k) (λ y. mul binary64 y (rawPower v k)) (λ _. raised-check v k y fv s) (mul-left y (rawPower v k))
+
 factor-check : (d : Order) (v : Float) (k : ℤ) (x : Float) → finite v ≡ true → T (leb (natAbs (left d k)) 64) → factor d v k x ≡ check (rawFactor d v k x)
 factor-check Zero v k x fv s = raised-check v k x fv s
-factor-check One v k x fv s = after (mul binary64 x (ofInt binary64 k)) v (k -ℤ pos 1) fv s
-  where
-    after : (y v : Float) (k : ℤ) → finite v ≡ true → T (leb (natAbs k) 64) → then (check y) (raised v k) ≡ check (mul binary64 y (rawPower v k))
-    after y v k fv s = step y (raised v k) (λ y. mul binary64 y (rawPower v k)) (λ _. raised-check v k y fv s) (mul-left y (rawPower v k))
-factor-check Two v k x fv s =
-    let y = mul binary64 x (ofInt binary64 (k *ℤ (k -ℤ pos 1))) in
-    step y (raised v (k -ℤ pos 2)) (λ y. mul binary64 y (rawPower v (k -ℤ pos 2))) (λ _. raised-check v (k -ℤ pos 2) y fv s) (mul-left y (rawPower v (k -ℤ pos 2)))
+factor-check One v k x fv s = after-check (rawFallen One k x) v (k -ℤ pos 1) fv s
+factor-check Two v k x fv s = after-check (rawFallen Two k x) v (k -ℤ pos 2) fv s
 
 fallen-lost : (d : Order) (k : ℤ) (x : Float) → Lost x → Lost (rawFallen d k x)
 fallen-lost Zero k x l = l
@@ -81,11 +80,6 @@ shared-check a s vi vj fi fj (row i j n) h =
     (step x (weigh s i j) (rawWeigh s i j) (weigh-check s i j x) (weigh-lost s i j x))
 
 -- ---- the division at the end
-
-kept-lost : (x y : Float) → Lost x → Lost (kept x y)
-kept-lost nan y l = l
-kept-lost (inf s) y l = l
-kept-lost (fin s m e) y l = never l
 
 over-check : (x d : Float) → over x d ≡ check (rawOver x d)
 over-check x nan = refl

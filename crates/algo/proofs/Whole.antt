@@ -1,7 +1,7 @@
 -- Whole numbers of the size of an exponent, and what is made of them, are i32. Assumes nothing.
-use mathlib.Core.Path.{_≡_, refl, sym, ap, _∙_}
+use mathlib.Core.Path.{_≡_, refl}
 use mathlib.Core.Bool.{Bool, true, false}
-use Prim.Native.Nat.{ℕ, zero, suc, _+_, _-_, _*_, _^_, _<_, _≤_}
+use Prim.Native.Nat.{ℕ, zero, suc, _+_, _*_, _<_, _≤_}
 use native.Mathlib.Nat.{mul-le-mul}
 use native.Mathlib.Omega.{arith}
 use lib.Dec.{T, ltb, leb, leb→le}
@@ -40,7 +40,7 @@ near c (negsuc a) = record { below = omega arith; above = omega arith }
 pub less-one : (z : ℤ) → natAbs z ≤ 66 → natAbs (z -ℤ pos 1) ≤ 67
 less-one z h = let n = near 0 z in omega (arith, n .below)
 
-neg-abs : (n : ℕ) → natAbs (negℤ (pos n)) ≡ n
+pub neg-abs : (n : ℕ) → natAbs (negℤ (pos n)) ≡ n
 neg-abs zero = refl
 neg-abs (suc n) = refl
 

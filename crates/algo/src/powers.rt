@@ -29,9 +29,16 @@ fn double(half: usize, count: usize, sq: f64, w: &mut [f64; 129])
     }
 }
 
-// The powers of a from 0 to 7, or as far as 15, 31, 63 or 64 where `top` is that far.
-fn fill_up(a: f64, top: u32, w: &mut [f64; 129])
-    ensures { λ _. ⌜ (length (now (w .entry)) ≡ 129 → (hi : ℕ) → hi ≤ 129 → hi ≤ 65 + top → Filled a (now (w .exit)) 64 hi) ⌝ }
+fn least(a: usize, b: usize) -> usize
+    ensures { λ r. ⌜ r ≡ a - (a - b) ⌝ }
+{
+    if b < a { b } else { a }
+}
+
+// The powers of a from 0 to `top`, or to 7.
+fn fill_up(a: f64, top: usize, w: &mut [f64; 129])
+    requires { ⌜ top ≤ 64 ⌝ }
+    ensures { λ _. ⌜ (length (now (w .entry)) ≡ 129 → Filled a (now (w .exit)) 64 (65 + top)) ⌝ }
 {
     w[64] = 1.0;
     double(1, 1, a, w);
@@ -41,13 +48,13 @@ fn fill_up(a: f64, top: u32, w: &mut [f64; 129])
     double(4, 4, a4, w);
     if top >= 8 {
         let a8 = a4 * a4;
-        double(8, 8, a8, w);
+        double(8, least(8, top - 7), a8, w);
         if top >= 16 {
             let a16 = a8 * a8;
-            double(16, 16, a16, w);
+            double(16, least(16, top - 15), a16, w);
             if top >= 32 {
                 let a32 = a16 * a16;
-                double(32, 32, a32, w);
+                double(32, least(32, top - 31), a32, w);
                 if top >= 64 {
                     double(64, 1, a32 * a32, w);
                 }
@@ -75,7 +82,7 @@ fn fill(a: f64, up: u32, down: u32, w: &mut [f64; 129])
     ensures { λ _. ⌜ (length (now (w .entry)) ≡ 129 → Filled a (now (w .exit)) (64 - down) (65 + up)) ⌝ }
 {
     let top: u32 = if up < down { down } else { up };
-    fill_up(a, top, w);
+    fill_up(a, top as usize, w);
     fill_down(down, w);
 }
 

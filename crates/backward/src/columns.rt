@@ -2,7 +2,6 @@
 use algo::Reach;
 use algo::const_sum;
 ghost use mathlib.Core.Path.{_≡_};
-ghost use lib.ListN.{take};
 ghost use Rattle.common.specs.Outcome.{orNan};
 ghost use Rattle.algo.specs.Table.{sumRule, term};
 ghost use Rattle.backward.specs.Printed.{table-t3a-ph, table-t3b-ph, table-v3a-ph, table-v3b-ph, table-t3a-ps, table-t3b-ps, table-v3a-ps, table-v3b-ps, table-p3a-hs, table-p3b-hs};

@@ -55,7 +55,7 @@ pub fn raw_xs(x: f64, s: f64, a: Equation, b: Equation) -> f64
 pub fn ph2T_reg3(p: MPa, h: KJPerKg) -> Answer
     ensures { λ r. ⌜ paper r ≡ ph2T-reg3Rule (p .0) (h .0) ⌝ }
 {
-    match check_ph(MPa(p.0), KJPerKg(h.0)) {
+    match check_ph(p, h) {
         Verdict::Accepted => settle_t(raw_ph(p.0, h.0, Equation::T3aPh, Equation::T3bPh)),
         Verdict::Refused(k) => Answer::Refused(k),
     }
@@ -65,7 +65,7 @@ pub fn ph2T_reg3(p: MPa, h: KJPerKg) -> Answer
 pub fn ph2v_reg3(p: MPa, h: KJPerKg) -> Answer
     ensures { λ r. ⌜ paper r ≡ ph2v-reg3Rule (p .0) (h .0) ⌝ }
 {
-    match check_ph(MPa(p.0), KJPerKg(h.0)) {
+    match check_ph(p, h) {
         Verdict::Accepted => settle_v(raw_ph(p.0, h.0, Equation::V3aPh, Equation::V3bPh)),
         Verdict::Refused(k) => Answer::Refused(k),
     }
@@ -75,7 +75,7 @@ pub fn ph2v_reg3(p: MPa, h: KJPerKg) -> Answer
 pub fn ps2T_reg3(p: MPa, s: KJPerKgK) -> Answer
     ensures { λ r. ⌜ paper r ≡ ps2T-reg3Rule (p .0) (s .0) ⌝ }
 {
-    match check_ps(MPa(p.0), KJPerKgK(s.0)) {
+    match check_ps(p, s) {
         Verdict::Accepted => settle_t(raw_xs(p.0, s.0, Equation::T3aPs, Equation::T3bPs)),
         Verdict::Refused(k) => Answer::Refused(k),
     }
@@ -85,7 +85,7 @@ pub fn ps2T_reg3(p: MPa, s: KJPerKgK) -> Answer
 pub fn ps2v_reg3(p: MPa, s: KJPerKgK) -> Answer
     ensures { λ r. ⌜ paper r ≡ ps2v-reg3Rule (p .0) (s .0) ⌝ }
 {
-    match check_ps(MPa(p.0), KJPerKgK(s.0)) {
+    match check_ps(p, s) {
         Verdict::Accepted => settle_v(raw_xs(p.0, s.0, Equation::V3aPs, Equation::V3bPs)),
         Verdict::Refused(k) => Answer::Refused(k),
     }

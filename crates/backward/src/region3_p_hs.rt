@@ -15,7 +15,7 @@ ghost use Rattle.backward.specs.Backward.{hs2p-reg3Rule};
 pub fn hs2p_reg3(h: KJPerKg, s: KJPerKgK) -> Answer
     ensures { λ r. ⌜ paper r ≡ hs2p-reg3Rule (h .0) (s .0) ⌝ }
 {
-    match check_hs(KJPerKg(h.0), KJPerKgK(s.0)) {
+    match check_hs(h, s) {
         Verdict::Accepted => settle_p(raw_xs(h.0, s.0, Equation::P3aHs, Equation::P3bHs)),
         Verdict::Refused(k) => Answer::Refused(k),
     }

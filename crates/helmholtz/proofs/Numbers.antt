@@ -9,8 +9,9 @@ use mir.Syntax.{w32}
 use mir.Val.{SFits, ofZ, toZ}
 use mir.Facts.{toZ-ofZ}
 use borrow.Author.Tests.{ne-eqb}
-use Rattle.common.specs.Outcome.{Outcome, refused}
-use Rattle.helmholtz.specs.Property.{Named, named, isNumber, formulaIn, propertyRule, boxed}
+use Rattle.common.specs.Outcome.{Outcome, refused, then}
+use Rattle.helmholtz.specs.Td.{Formula}
+use Rattle.helmholtz.specs.Property.{Named, named, isNumber, properties, formulaIn, propertyRule, boxed, called}
 
 -- the match goes by the number's bits
 pub numbered : {n : ℤ} {k : ℕ} → SFits w32 n → ofZ w32 n ≡ k → (t d : Float) → propertyRule n t d ≡ propertyRule (toZ w32 k) t d
@@ -25,12 +26,16 @@ other : (k : ℕ) (n : ℤ) → (ofZ w32 n ≡ k → ⊥) → isNumber k n ≡ f
 other k (pos m) h = ne-eqb m k h
 other k (negsuc m) h = refl
 
-pub none : (n : ℤ) (A : Type 0) (rs : List Named) → Passed n A rs → A × (formulaIn rs n ≡ refused 6)
+none : (n : ℤ) (A : Type 0) (rs : List Named) → Passed n A rs → A × (formulaIn rs n ≡ refused 6)
 unfolding Passed
 none n A [] p = (p, refl)
 none n A (named k f ∷ rs) p =
     let q = none n (A × (ofZ w32 n ≡ k → ⊥)) rs p in
     (q .0 .0, rw (other k n (q .0 .1)) (q .1))
+
+-- a number that is none of the 25
+pub unknown : (n : ℤ) (t d : Float) → Passed n Unit properties → refused 6 ≡ propertyRule n t d
+unknown n t d p = sym (ap (λ (o : Outcome Formula). then o (λ f. called f t d)) (none n Unit properties p .1))
 
 -- what an arm answers
 pub arm : (t d : Float) {p q a o : Outcome Float} → p ≡ boxed t d o → q ≡ boxed t d a → a ≡ o → q ≡ p

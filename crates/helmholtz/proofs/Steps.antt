@@ -1,8 +1,7 @@
 -- A formula's proof mirrors the formula: `Raw o r`, operation by operation, with the operators' own signs. Assumes nothing.
 use mathlib.Core.Path.{_≡_, refl}
-use mathlib.Core.Bool.{true}
 use lib.Ieee.{Float, binary64, add, sub, mul}
-use Rattle.common.specs.Outcome.{Outcome, value, finite, check}
+use Rattle.common.specs.Outcome.{Outcome, value, check}
 use Rattle.common.specs.Decimal.{decimal, whole, scaled}
 use Rattle.common.specs.Constant.{RGAS-WATER, TC-WATER, DC-WATER, TT}
 use Rattle.rules.specs.Formula.{_⊕_, _⊖_, _⊗_, _⊘_, rawOver}

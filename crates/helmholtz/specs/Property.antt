@@ -1,6 +1,6 @@
 -- The calls at a T and a d: a property by itself, and by its number. Assumes nothing: these are definitions.
 use Prim.Native.Nat.{ℕ}
-use mathlib.Core.Bool.{Bool, true, false}
+use mathlib.Core.Bool.{Bool, false}
 use mathlib.Core.List.{List, [], _∷_}
 use lib.Dec.{eqb}
 use lib.IntN.{ℤ, pos, negsuc}
@@ -25,31 +25,31 @@ pub data Named : Type 0 where
 -- the 25 numbers of common/property_id.rs that `Td_thermal_reg3` and `Td_ext_reg3` name
 abbrev pub properties : List Named
 properties =
-    named 0 statePressure ∷
-    named 3 Td2v ∷
-    named 4 Td2h ∷
-    named 5 Td2s ∷
-    named 6 Td2e ∷
-    named 7 Td2u ∷
-    named 8 Td2cp ∷
-    named 9 Td2cv ∷
-    named 10 Td2w ∷
-    named 11 Td2ks ∷
-    named 12 Td2f ∷
-    named 13 Td2g ∷
-    named 14 Td2z ∷
-    named 17 Td2ec ∷
-    named 18 Td2kt ∷
-    named 19 Td2dvdtcp ∷
-    named 20 Td2dvdpct ∷
-    named 21 Td2dpdtcv ∷
-    named 22 Td2iJTC ∷
-    named 23 Td2joule ∷
-    named 31 Td2pc ∷
-    named 32 Td2batap ∷
-    named 33 Td2fi ∷
-    named 34 Td2fu ∷
-    named 35 Td2alfap ∷
+    named 0 statePressure ∷  -- OP
+    named 3 Td2v ∷  -- OV
+    named 4 Td2h ∷  -- OH
+    named 5 Td2s ∷  -- OS
+    named 6 Td2e ∷  -- OE
+    named 7 Td2u ∷  -- OU
+    named 8 Td2cp ∷  -- OCP
+    named 9 Td2cv ∷  -- OCV
+    named 10 Td2w ∷  -- OW
+    named 11 Td2ks ∷  -- OKS
+    named 12 Td2f ∷  -- OF
+    named 13 Td2g ∷  -- OG
+    named 14 Td2z ∷  -- OZ
+    named 17 Td2ec ∷  -- OEC
+    named 18 Td2kt ∷  -- OKT
+    named 19 Td2dvdtcp ∷  -- ODVDT
+    named 20 Td2dvdpct ∷  -- ODVDP
+    named 21 Td2dpdtcv ∷  -- ODPDT
+    named 22 Td2iJTC ∷  -- OIJTC
+    named 23 Td2joule ∷  -- OJTC
+    named 31 Td2pc ∷  -- OPC
+    named 32 Td2batap ∷  -- OBETAP
+    named 33 Td2fi ∷  -- OFI
+    named 34 Td2fu ∷  -- OFU
+    named 35 Td2alfap ∷  -- OALFAP
     []
 
 abbrev pub isNumber : ℕ → ℤ → Bool

@@ -1,5 +1,6 @@
 -- The properties from T and d: R7-97(2012), table 31, in the order of operations of r3/region3_Td.rs. A formula's operands are what T and d come to.
--- Every refusal here is 5 but the one that `statePressure` adds. Assumes nothing: these are definitions.
+-- Every refusal here is 5 but the one that `statePressure` adds, so it does not matter which operand is worked first.
+-- Assumes nothing: these are definitions.
 use lib.Ieee.{Float}
 use Rattle.common.specs.Outcome.{Outcome, value}
 use Rattle.common.specs.Decimal.{decimal, whole}
@@ -14,46 +15,71 @@ Formula = Outcome Float → Outcome Float → Outcome Float
 abbrev pub R : Outcome Float
 R = value RGAS-WATER
 
--- T*/T and ρ/ρ*
-abbrev pub τ : Outcome Float → Outcome Float
-τ T = value TC-WATER ⊘ T
+-- δ = ρ/ρ* and τ = T*/T
+abbrev pub reducedDensity : Outcome Float → Outcome Float
+reducedDensity d = d ⊘ value DC-WATER
 
-abbrev pub δ : Outcome Float → Outcome Float
-δ d = d ⊘ value DC-WATER
+abbrev pub inverseTemperature : Outcome Float → Outcome Float
+inverseTemperature T = value TC-WATER ⊘ T
 
+-- specific volume, m3/kg
 unfoldable pub Td2v : Formula
 Td2v T d = value (whole 1) ⊘ d
 
--- p in MPa
+-- pressure, MPa
 unfoldable pub Td2p : Formula
-Td2p T d = value (decimal 0_001 3) ⊗ d ⊗ R ⊗ T ⊗ δ d ⊗ phi-delta (δ d) (τ T)
+Td2p T d =
+    let δ = reducedDensity d in
+    let τ = inverseTemperature T in
+    value (decimal 0_001 3) ⊗ d ⊗ R ⊗ T ⊗ δ ⊗ phi-delta δ τ
 
+-- specific enthalpy, kJ/kg
 unfoldable pub Td2h : Formula
-Td2h T d = R ⊗ T ⊗ (τ T ⊗ joint-tau (δ d) (τ T) ⊕ δ d ⊗ joint-delta (δ d) (τ T))
+Td2h T d =
+    let δ = reducedDensity d in
+    let τ = inverseTemperature T in
+    R ⊗ T ⊗ (τ ⊗ joint-tau δ τ ⊕ δ ⊗ joint-delta δ τ)
 
+-- specific entropy, kJ/(kg K)
 unfoldable pub Td2s : Formula
-Td2s T d = R ⊗ (τ T ⊗ joint-tau (δ d) (τ T) ⊖ joint-phi (δ d) (τ T))
+Td2s T d =
+    let δ = reducedDensity d in
+    let τ = inverseTemperature T in
+    R ⊗ (τ ⊗ joint-tau δ τ ⊖ joint-phi δ τ)
 
+-- specific internal energy, kJ/kg
 unfoldable pub Td2u : Formula
-Td2u T d = R ⊗ T ⊗ τ T ⊗ phi-tau (δ d) (τ T)
+Td2u T d =
+    let δ = reducedDensity d in
+    let τ = inverseTemperature T in
+    R ⊗ T ⊗ τ ⊗ phi-tau δ τ
 
+-- specific isochoric heat capacity, kJ/(kg K)
 unfoldable pub Td2cv : Formula
-Td2cv T d = R ⊗ (minusOf (τ T) ⊗ τ T ⊗ phi-tautau (δ d) (τ T))
+Td2cv T d =
+    let δ = reducedDensity d in
+    let τ = inverseTemperature T in
+    R ⊗ (minusOf τ ⊗ τ ⊗ phi-tautau δ τ)
 
+-- specific isobaric heat capacity, kJ/(kg K)
 unfoldable pub Td2cp : Formula
 Td2cp T d =
-    let φδ = four-delta (δ d) (τ T) in
-    let a = δ d ⊗ (φδ ⊖ τ T ⊗ four-deltatau (δ d) (τ T)) in
-    let b = δ d ⊗ (value (whole 2) ⊗ φδ ⊕ δ d ⊗ four-deltadelta (δ d) (τ T)) in
-    R ⊗ (minusOf (τ T) ⊗ τ T ⊗ four-tautau (δ d) (τ T) ⊕ a ⊗ a ⊘ b)
+    let δ = reducedDensity d in
+    let τ = inverseTemperature T in
+    let φδ = four-delta δ τ in
+    let a = δ ⊗ (φδ ⊖ τ ⊗ four-deltatau δ τ) in
+    let b = δ ⊗ (value (whole 2) ⊗ φδ ⊕ δ ⊗ four-deltadelta δ τ) in
+    R ⊗ (minusOf τ ⊗ τ ⊗ four-tautau δ τ ⊕ a ⊗ a ⊘ b)
 
+-- speed of sound, m/s
 unfoldable pub Td2w : Formula
 Td2w T d =
-    let φδ = four-delta (δ d) (τ T) in
-    let a = δ d ⊗ φδ ⊖ δ d ⊗ τ T ⊗ four-deltatau (δ d) (τ T) in
-    rootOf (value (whole 1000) ⊗ R ⊗ T
-    ⊗ (value (whole 2) ⊗ δ d ⊗ φδ ⊕ δ d ⊗ δ d ⊗ four-deltadelta (δ d) (τ T)
-    ⊖ a ⊗ a ⊘ (τ T ⊗ τ T ⊗ four-tautau (δ d) (τ T))))
+    let δ = reducedDensity d in
+    let τ = inverseTemperature T in
+    let φδ = four-delta δ τ in
+    let a = δ ⊗ φδ ⊖ δ ⊗ τ ⊗ four-deltatau δ τ in
+    let b = value (whole 2) ⊗ δ ⊗ φδ ⊕ δ ⊗ δ ⊗ four-deltadelta δ τ in
+    rootOf (value (whole 1000) ⊗ R ⊗ T ⊗ (b ⊖ a ⊗ a ⊘ (τ ⊗ τ ⊗ four-tautau δ τ)))
 
 -- the p that a call works out: 4 where it lies outside its range
 unfoldable pub statePressure : Formula

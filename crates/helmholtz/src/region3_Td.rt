@@ -12,16 +12,18 @@ use rules::over;
 use rules::raw_root;
 ghost use Rattle.common.specs.Outcome.{check};
 ghost use Rattle.helmholtz.specs.Gives.{Gives};
-ghost use Rattle.helmholtz.specs.Td.{τ, δ, Td2v, Td2p, Td2h, Td2s, Td2u, Td2cv, Td2cp, Td2w};
+ghost use Rattle.helmholtz.specs.Td.{reducedDensity, inverseTemperature, Td2v, Td2p, Td2h, Td2s, Td2u, Td2cv, Td2cp, Td2w};
 
+// τ = T*/T
 pub fn tau_of(t: f64) -> f64
-    ensures { λ r. ⌜ Gives (τ (check t)) r ⌝ }
+    ensures { λ r. ⌜ Gives (inverseTemperature (check t)) r ⌝ }
 {
     over(TC_WATER, t)
 }
 
+// δ = ρ/ρ*
 pub fn delta_of(d: f64) -> f64
-    ensures { λ r. ⌜ Gives (δ (check d)) r ⌝ }
+    ensures { λ r. ⌜ Gives (reducedDensity (check d)) r ⌝ }
 {
     d / DC_WATER
 }
@@ -32,7 +34,6 @@ pub fn raw_v(t: f64, d: f64) -> f64
     over(1.0, d)
 }
 
-// MPa
 pub fn raw_p(t: f64, d: f64) -> f64
     ensures { λ r. ⌜ Gives (Td2p (check t) (check d)) r ⌝ }
 {

@@ -155,7 +155,8 @@ fn pressed(p: f64, x: f64) -> Answer
 pub fn state_p(t: f64, d: f64) -> Answer
     ensures { λ r. ⌜ paper r ≡ statePressure (check t) (check d) ⌝ }
 {
-    settle_p(raw_p(t, d))
+    let p = raw_p(t, d);
+    pressed(p, p)
 }
 
 pub fn state_z(t: f64, d: f64) -> Answer

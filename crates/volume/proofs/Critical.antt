@@ -2,14 +2,14 @@
 use mathlib.Core.Path.{_≡_, refl, sym, subst}
 use mathlib.Core.Bool.{Bool, true, false, cond}
 use Prim.Native.Nat.{ℕ, _-_, _*_, _≤_, _<_}
-use native.Mathlib.Nat.{mul-le-mul-right, mul-pos}
+use native.Mathlib.Nat.{mul-le-mul-right, mul-comm, mul-pos}
 use native.Mathlib.Omega.{arith}
 use lib.Dec.{T, ltb}
-use lib.IntN.{ℤ, pos}
-use lib.Ieee.{Float, nan, inf, fin, binary64, up, down, round, neg, sum, add, sub, le, lt, eq}
+use lib.IntN.{pos}
+use lib.Ieee.{Float, nan, inf, fin, binary64, up, down, round, neg, sum, sub, le, lt}
 use lib.Ieee.Fits.{down-pos}
 use lib.Ieee.Positive.{positive, le→cross, le-trans-positive, between}
-use Rattle.common.specs.Outcome.{Outcome, value, refused, finite, check, then, pick}
+use Rattle.common.specs.Outcome.{Outcome, value, refused, finite, pick}
 use Rattle.common.specs.Decimal.{decimal, whole, scaled}
 use Rattle.common.specs.Constant.{P-FROM, P-TO, T-FROM, T-TO, P-TOL, T-TOL, TC-WATER, PC-WATER}
 use Rattle.common.specs.Range.{within, pairRule}
@@ -26,11 +26,9 @@ neg-finite nan h = h
 neg-finite (inf s) h = h
 neg-finite (fin s m e) h = refl
 
-bound : (m u d k : ℕ) → m * u * 1 ≤ 2048 * d → m * u * k ≤ 2048 * (d * k)
-bound m u d k h = omega (arith, mul-le-mul-right k h)
-
-bound' : (m u d k : ℕ) → m * u * 1 ≤ 2048 * d → m * u * k ≤ 2048 * (k * d)
-bound' m u d k h = omega (arith, mul-le-mul-right k h)
+-- a number up to 2048, written over another's denominator
+bound : (a d k c : ℕ) → d * k ≡ c → a * 1 ≤ 2048 * d → a * k ≤ 2048 * c
+bound a d k c e h = rw (← e) (omega (arith, mul-le-mul-right k h))
 
 less-finite : (a b c : ℕ) → 0 < c → a ≤ 2048 * c → b ≤ 2048 * c → finite (sum binary64 false a true b c) ≡ true
 unfolding sum
@@ -53,8 +51,8 @@ difference-finite (fin false m e) (inf t) px py hx hy = absurd py
 difference-finite (fin false m e) (fin true n d) px py hx hy = absurd py
 difference-finite (fin false m e) (fin false n d) px py hx hy =
     less-finite (m * up e * down d) (n * up d * down e) (down e * down d) (mul-pos (down-pos e) (down-pos d))
-    (bound m (up e) (down e) (down d) (le→cross (fin false m e) top px tt hx))
-    (bound' n (up d) (down d) (down e) (le→cross (fin false n d) top py tt hy))
+    (bound (m * up e) (down e) (down d) _ refl (le→cross (fin false m e) top px tt hx))
+    (bound (n * up d) (down d) (down e) _ (mul-comm (down d) (down e)) (le→cross (fin false n d) top py tt hy))
 
 -- ---- in the box
 

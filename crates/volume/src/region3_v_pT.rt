@@ -82,7 +82,7 @@ fn found_at(p: MPa, t: Kelvin) -> Found
     if at_critical(p.0, t.0) {
         return found(Origin::Critical, 1.0 / DC_WATER);
     }
-    match sub_region3_pT(MPa(p.0), Kelvin(t.0)) {
+    match sub_region3_pT(p, t) {
         Choice::Taken(l) => found(Origin::Subregion(l), raw_volume(l, p.0, t.0)),
         Choice::Refused(k) => Found::Refused(k),
     }
@@ -92,7 +92,7 @@ fn found_at(p: MPa, t: Kelvin) -> Found
 pub fn found_pT(p: MPa, t: Kelvin) -> Found
     ensures { λ r. ⌜ foundIn r ≡ foundRule (p .0) (t .0) ⌝ }
 {
-    match check_pT(MPa(p.0), Kelvin(t.0)) {
+    match check_pT(p, t) {
         Verdict::Accepted => found_at(p, t),
         Verdict::Refused(k) => Found::Refused(k),
     }
@@ -112,7 +112,7 @@ pub fn pT2v_reg3(p: MPa, t: Kelvin) -> Answer
 pub fn pT2v_3subreg(p: MPa, t: Kelvin, l: Letter) -> Answer
     ensures { λ r. ⌜ paper r ≡ pT2v-3subregRule (p .0) (t .0) l ⌝ }
 {
-    match check_pT(MPa(p.0), Kelvin(t.0)) {
+    match check_pT(p, t) {
         Verdict::Accepted => settle_v(raw_volume(l, p.0, t.0)),
         Verdict::Refused(k) => Answer::Refused(k),
     }

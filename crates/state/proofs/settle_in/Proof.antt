@@ -2,7 +2,6 @@
 use mathlib.Core.Path.{_≡_}
 use mathlib.Core.Bool.{true, false}
 use borrow.Author.Needs.{needs}
-use Rattle.common.specs.Outcome.{finite}
 use Rattle.common.specs.Range.{within}
 use Rattle.common.proofs.Laws.{check-kept, check-lost}
 use Rattle.state.proofs.settle_in.Statement.{statement}

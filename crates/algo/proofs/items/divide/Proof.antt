@@ -1,6 +1,6 @@
 -- `algo::divide` meets its contract. Assumes nothing.
 use mathlib.Core.Path.{_≡_}
-use Rattle.algo.specs.declared.Share.the-variants.{Whole, I, Next, J, Ii, Ij, Jj}
+use Rattle.algo.specs.declared.Share.the-variants.{I, Next, J, Ii, Ij, Jj}
 use borrow.Author.Needs.{needs}
 use Rattle.algo.proofs.items.divide.Statement.{statement}
 use Rattle.algo.proofs.items.divide.Tie as tie

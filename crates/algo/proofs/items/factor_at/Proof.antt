@@ -14,7 +14,6 @@ use Rattle.algo.specs.Table.{left}
 use Rattle.algo.specs.Dense.{Filled, exponentAt}
 use Rattle.algo.specs.Reach.{spans}
 use Rattle.algo.specs.declared.Order.{Order}
-use Rattle.algo.specs.declared.Order.the-variants.{Zero, One, Two}
 use Rattle.algo.proofs.Dense.{power-at}
 use Rattle.algo.proofs.Reaches.{spans-size}
 use Rattle.algo.proofs.Whole.{fits, there, less-one, product, before}

@@ -1,6 +1,6 @@
 -- `algo::pair_at` meets its contract. The invariant: what is left of the rows, added to each sum so far, is the whole sum. Assumes nothing.
 use mathlib.Core.Path.{_≡_, refl, sym, _∙_}
-use Prim.Native.Nat.{_+_, _-_, _≤_, _<_}
+use Prim.Native.Nat.{_-_, _≤_}
 use native.Mathlib.Omega.{arith}
 use lib.Dec.{T}
 use lib.IntN.{pos, natAbs}

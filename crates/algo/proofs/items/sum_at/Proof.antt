@@ -1,10 +1,10 @@
 -- `algo::sum_at` meets its contract. The invariant: what is left of the rows, added to the sum so far, is the whole sum. Assumes nothing.
 use mathlib.Core.Path.{_≡_, refl, sym, _∙_}
-use Prim.Native.Nat.{_+_, _-_, _≤_, _<_}
+use Prim.Native.Nat.{_-_, _≤_}
 use native.Mathlib.Omega.{arith}
 use lib.Dec.{T}
 use lib.IntN.{pos}
-use lib.Ieee.{Float, nan, ofBits}
+use lib.Ieee.{Float, ofBits}
 use lib.ListN.{length, getD}
 use Rattle.common.specs.Outcome.{zeroF}
 use Rattle.common.specs.Sum.{rawTotal, every}

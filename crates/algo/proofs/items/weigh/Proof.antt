@@ -5,7 +5,7 @@ use native.Mathlib.Omega.{arith}
 use lib.IntN.{ℤ, pos, natAbs, _-ℤ_, _*ℤ_}
 use mir.Syntax.{w32}
 use mir.Val.{toZ, ofZ}
-use Rattle.algo.specs.declared.Share.the-variants.{Whole, I, Next, J, Ii, Ij, Jj}
+use Rattle.algo.specs.declared.Share.the-variants.{I, Next, J, Ii, Ij, Jj}
 use Rattle.algo.proofs.Whole.{fits, there, less-one, product}
 use borrow.Author.Needs.{needs}
 use Rattle.algo.proofs.items.weigh.Statement.{statement}

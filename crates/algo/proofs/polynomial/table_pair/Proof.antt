@@ -1,9 +1,8 @@
 -- `algo::table_pair` meets its contract. Assumes nothing.
-use mathlib.Core.Path.{_≡_, sym, _∙_, ap}
+use mathlib.Core.Path.{sym, _∙_}
 use mathlib.Core.List.{List}
 use denote.Ref.{now}
 use borrow.Author.Needs.{needs}
-use Rattle.common.specs.Outcome.{check}
 use Rattle.common.specs.Answer.{numberOf}
 use Rattle.algo.specs.Table.{Row, rowsOf}
 use Rattle.algo.specs.Joint.{pairOf, shareRule, pairTable}

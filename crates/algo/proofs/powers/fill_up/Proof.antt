@@ -1,5 +1,6 @@
--- `algo::fill_up` meets its contract: each doubling fills as many places more, from a squared once more. Assumes nothing.
+-- `algo::fill_up` meets its contract: each doubling fills as many places more as are wanted, from a squared once more. Assumes nothing.
 use mathlib.Core.Path.{_≡_, refl}
+use Prim.Native.Nat.{ℕ, suc, _+_, _-_, _<_, _≤_}
 use native.Mathlib.Omega.{arith}
 use lib.ListN.{length}
 use lib.Ieee.{ofBits}
@@ -9,33 +10,46 @@ use Rattle.algo.proofs.Dense.{filled-one, filled-part}
 use Rattle.algo.proofs.powers.fill_up.Statement.{statement}
 use Rattle.algo.proofs.powers.fill_up.Tie as tie
 
-full2 : (c : tie.After-double) → length (c .before .before .args .w .now) ≡ 129 → Filled (c .before .before .args .a) (c .double .last .1 .1 .1 .0) 64 66
+-- of h more powers, or as many as reach t, as many as that are made
+record Made (h t r : ℕ) : Type 0 where
+  whole : h + h ≤ t → 64 + (h + h) ≤ 64 + h + r
+  part : h ≤ t → t < h + h → 65 + t ≤ 64 + h + r
+
+made : (m t r : ℕ) → r ≡ suc m - (suc m - (t - m)) → Made (suc m) t r
+made m t r e = record { whole = λ l. omega arith; part = λ l n. omega arith }
+
+-- the powers so far, after each doubling
+
+full1 : (c : tie.After-double) → length (c .before .before .args .w .now) ≡ 129 → Filled (c .before .before .args .a) (c .double .last .1 .1 .1 .0) 64 66
 unfolding squared ofBits
-full2 c e = c .double .ensures (c .before .before .args .a) 0 (omega arith) refl refl (filled-one (c .before .before .args .a) (c .before .before .args .w .now) e)
+full1 c e = c .double .ensures (c .before .before .args .a) 0 (omega arith) refl refl (filled-one (c .before .before .args .a) (c .before .before .args .w .now) e)
 
-full4 : (c : tie.After-double2) → length (c .before .before .before .before .args .w .now) ≡ 129 → Filled (c .before .before .before .before .args .a) (c .double2 .last .1 .1 .1 .0) 64 68
+full2 : (c : tie.After-double2) → length (c .before .before .before .before .args .w .now) ≡ 129 → Filled (c .before .before .before .before .args .a) (c .double2 .last .1 .1 .1 .0) 64 68
 unfolding squared
-full4 c e = c .double2 .ensures (c .before .before .before .before .args .a) 1 (omega arith) refl refl (full2 (c .before .before) e)
+full2 c e = c .double2 .ensures (c .before .before .before .before .args .a) 1 (omega arith) refl refl (full1 (c .before .before) e)
 
-full8 : (c : tie.After-double3) → length (c .before .before .before .before .before .before .args .w .now) ≡ 129 → Filled (c .before .before .before .before .before .before .args .a) (c .double3 .last .1 .1 .1 .0) 64 72
+full3 : (c : tie.After-double3) → length (c .before .before .before .before .before .before .args .w .now) ≡ 129 → Filled (c .before .before .before .before .before .before .args .a) (c .double3 .last .1 .1 .1 .0) 64 72
 unfolding squared
-full8 c e = c .double3 .ensures (c .before .before .before .before .before .before .args .a) 2 (omega arith) refl refl (full4 (c .before .before) e)
+full3 c e = c .double3 .ensures (c .before .before .before .before .before .before .args .a) 2 (omega arith) refl refl (full2 (c .before .before) e)
 
-full16 : (c : tie.After-double4) → length (c .before .before .before .before .before .before .before .before .before .args .w .now) ≡ 129 → Filled (c .before .before .before .before .before .before .before .before .before .args .a) (c .double4 .last .1 .1 .1 .0) 64 80
+full4 : (c : tie.After-double4) → length (c .before .before .before .before .before .before .before .before .before .before .args .w .now) ≡ 129 → Filled (c .before .before .before .before .before .before .before .before .before .before .args .a) (c .double4 .last .1 .1 .1 .0) 64 (64 + 8 + c .before .before .least .result)
 unfolding squared
-full16 c e = c .double4 .ensures (c .before .before .before .before .before .before .before .before .before .args .a) 3 (omega arith) refl refl (full8 (c .before .before .before) e)
+full4 c e = c .double4 .ensures (c .before .before .before .before .before .before .before .before .before .before .args .a) 3 (omega arith) refl refl (full3 (c .before .before .before .before) e)
 
-full32 : (c : tie.After-double5) → length (c .before .before .before .before .before .before .before .before .before .before .before .before .args .w .now) ≡ 129 → Filled (c .before .before .before .before .before .before .before .before .before .before .before .before .args .a) (c .double5 .last .1 .1 .1 .0) 64 96
+full5 : (c : tie.After-double5) → length (c .before .before .before .before .before .before .before .before .before .before .before .before .before .before .args .w .now) ≡ 129 → Filled (c .before .before .before .before .before .before .before .before .before .before .before .before .before .before .args .a) (c .double5 .last .1 .1 .1 .0) 64 (64 + 16 + c .before .before .least2 .result)
 unfolding squared
-full32 c e = c .double5 .ensures (c .before .before .before .before .before .before .before .before .before .before .before .before .args .a) 4 (omega arith) refl refl (full16 (c .before .before .before) e)
+full5 c e = c .double5 .ensures (c .before .before .before .before .before .before .before .before .before .before .before .before .before .before .args .a) 4 (omega arith) refl refl
+    (filled-part (c .before .before .before .before .before .before .before .before .before .before .before .before .before .before .args .a) (c .before .before .before .before .double4 .last .1 .1 .1 .0) 64 (64 + 8 + c .before .before .before .before .before .before .least .result) 64 80 (omega arith) (made 7 (c .before .before .before .before .before .before .before .before .before .before .before .before .before .before .args .top) _ (c .before .before .before .before .before .before .least .ensures) .whole (omega arith)) (full4 (c .before .before .before .before) e))
 
-full64 : (c : tie.After-double6) → length (c .before .before .before .before .before .before .before .before .before .before .before .before .before .before .before .args .w .now) ≡ 129 → Filled (c .before .before .before .before .before .before .before .before .before .before .before .before .before .before .before .args .a) (c .double6 .last .1 .1 .1 .0) 64 128
+full6 : (c : tie.After-double6) → length (c .before .before .before .before .before .before .before .before .before .before .before .before .before .before .before .before .before .before .args .w .now) ≡ 129 → Filled (c .before .before .before .before .before .before .before .before .before .before .before .before .before .before .before .before .before .before .args .a) (c .double6 .last .1 .1 .1 .0) 64 (64 + 32 + c .before .before .least3 .result)
 unfolding squared
-full64 c e = c .double6 .ensures (c .before .before .before .before .before .before .before .before .before .before .before .before .before .before .before .args .a) 5 (omega arith) refl refl (full32 (c .before .before .before) e)
+full6 c e = c .double6 .ensures (c .before .before .before .before .before .before .before .before .before .before .before .before .before .before .before .before .before .before .args .a) 5 (omega arith) refl refl
+    (filled-part (c .before .before .before .before .before .before .before .before .before .before .before .before .before .before .before .before .before .before .args .a) (c .before .before .before .before .double5 .last .1 .1 .1 .0) 64 (64 + 16 + c .before .before .before .before .before .before .least2 .result) 64 96 (omega arith) (made 15 (c .before .before .before .before .before .before .before .before .before .before .before .before .before .before .before .before .before .before .args .top) _ (c .before .before .before .before .before .before .least2 .ensures) .whole (omega arith)) (full5 (c .before .before .before .before) e))
 
-full65 : (c : tie.After-double7) → length (c .before .before .before .before .before .before .before .before .before .before .before .before .before .before .before .before .before .before .args .w .now) ≡ 129 → Filled (c .before .before .before .before .before .before .before .before .before .before .before .before .before .before .before .before .before .before .args .a) (c .double7 .last .1 .1 .1 .0) 64 129
+full7 : (c : tie.After-double7) → length (c .before .before .before .before .before .before .before .before .before .before .before .before .before .before .before .before .before .before .before .before .before .args .w .now) ≡ 129 → Filled (c .before .before .before .before .before .before .before .before .before .before .before .before .before .before .before .before .before .before .before .before .before .args .a) (c .double7 .last .1 .1 .1 .0) 64 129
 unfolding squared
-full65 c e = c .double7 .ensures (c .before .before .before .before .before .before .before .before .before .before .before .before .before .before .before .before .before .before .args .a) 6 (omega arith) refl refl (full64 (c .before .before .before) e)
+full7 c e = c .double7 .ensures (c .before .before .before .before .before .before .before .before .before .before .before .before .before .before .before .before .before .before .before .before .before .args .a) 6 (omega arith) refl refl
+    (filled-part (c .before .before .before .before .before .before .before .before .before .before .before .before .before .before .before .before .before .before .before .before .before .args .a) (c .before .before .before .double6 .last .1 .1 .1 .0) 64 (64 + 32 + c .before .before .before .before .before .least3 .result) 64 128 (omega arith) (made 31 (c .before .before .before .before .before .before .before .before .before .before .before .before .before .before .before .before .before .before .before .before .before .args .top) _ (c .before .before .before .before .before .least3 .ensures) .whole (omega arith)) (full6 (c .before .before .before) e))
 
 element-write-w : tie.Need-element-write-w
 element-write-w c = search needs
@@ -49,32 +63,50 @@ double-requires-2 c κs = search needs
 double-requires-3 : tie.Need-double-requires-3
 double-requires-3 c κs = search needs
 
+sub-least : tie.Need-sub-least
+sub-least c = search needs
+
+least-requires : tie.Need-least-requires
+least-requires c κs = search needs
+
 double-requires-4 : tie.Need-double-requires-4
 double-requires-4 c κs = search needs
+
+sub-least-2 : tie.Need-sub-least-2
+sub-least-2 c = search needs
+
+least-requires-2 : tie.Need-least-requires-2
+least-requires-2 c κs = search needs
 
 double-requires-5 : tie.Need-double-requires-5
 double-requires-5 c κs = search needs
 
+sub-least-3 : tie.Need-sub-least-3
+sub-least-3 c = search needs
+
+least-requires-3 : tie.Need-least-requires-3
+least-requires-3 c κs = search needs
+
 double-requires-6 : tie.Need-double-requires-6
-double-requires-6 c κs = search needs
+double-requires-6 c κs = (omega (arith, c .before .least3 .ensures), omega (arith, c .before .least3 .ensures))
 
 double-requires-7 : tie.Need-double-requires-7
 double-requires-7 c κs = search needs
 
 returns : tie.Need-returns
-returns c = λ e hi p q. filled-part (c .before .before .before .before .before .before .before .before .before .before .before .before .before .before .before .before .before .before .args .a) (c .double7 .last .1 .1 .1 .0) 64 129 64 hi (omega arith) (omega arith) (full65 (c) e)
+returns c = λ e. filled-part (c .before .before .before .before .before .before .before .before .before .before .before .before .before .before .before .before .before .before .before .before .before .args .a) (c .double7 .last .1 .1 .1 .0) 64 129 64 (65 + c .before .before .before .before .before .before .before .before .before .before .before .before .before .before .before .before .before .before .before .before .before .args .top) (omega arith) (omega arith) (full7 (c) e)
 
 returns-2 : tie.Need-returns-2
-returns-2 c = λ e hi p q. filled-part (c .before .before .before .before .before .before .before .before .before .before .before .before .before .before .before .before .args .a) (c .before .double6 .last .1 .1 .1 .0) 64 128 64 hi (omega arith) (omega arith) (full64 (c .before) e)
+returns-2 c = λ e. filled-part (c .before .before .before .before .before .before .before .before .before .before .before .before .before .before .before .before .before .before .before .args .a) (c .before .double6 .last .1 .1 .1 .0) 64 (64 + 32 + c .before .before .before .least3 .result) 64 (65 + c .before .before .before .before .before .before .before .before .before .before .before .before .before .before .before .before .before .before .before .args .top) (omega arith) (made 31 (c .before .before .before .before .before .before .before .before .before .before .before .before .before .before .before .before .before .before .before .args .top) _ (c .before .before .before .least3 .ensures) .part (omega arith) (omega arith)) (full6 (c .before) e)
 
 returns-3 : tie.Need-returns-3
-returns-3 c = λ e hi p q. filled-part (c .before .before .before .before .before .before .before .before .before .before .before .before .before .args .a) (c .before .double5 .last .1 .1 .1 .0) 64 96 64 hi (omega arith) (omega arith) (full32 (c .before) e)
+returns-3 c = λ e. filled-part (c .before .before .before .before .before .before .before .before .before .before .before .before .before .before .before .args .a) (c .before .double5 .last .1 .1 .1 .0) 64 (64 + 16 + c .before .before .before .least2 .result) 64 (65 + c .before .before .before .before .before .before .before .before .before .before .before .before .before .before .before .args .top) (omega arith) (made 15 (c .before .before .before .before .before .before .before .before .before .before .before .before .before .before .before .args .top) _ (c .before .before .before .least2 .ensures) .part (omega arith) (omega arith)) (full5 (c .before) e)
 
 returns-4 : tie.Need-returns-4
-returns-4 c = λ e hi p q. filled-part (c .before .before .before .before .before .before .before .before .before .before .args .a) (c .before .double4 .last .1 .1 .1 .0) 64 80 64 hi (omega arith) (omega arith) (full16 (c .before) e)
+returns-4 c = λ e. filled-part (c .before .before .before .before .before .before .before .before .before .before .before .args .a) (c .before .double4 .last .1 .1 .1 .0) 64 (64 + 8 + c .before .before .before .least .result) 64 (65 + c .before .before .before .before .before .before .before .before .before .before .before .args .top) (omega arith) (made 7 (c .before .before .before .before .before .before .before .before .before .before .before .args .top) _ (c .before .before .before .least .ensures) .part (omega arith) (omega arith)) (full4 (c .before) e)
 
 returns-5 : tie.Need-returns-5
-returns-5 c = λ e hi p q. filled-part (c .before .before .before .before .before .before .before .args .a) (c .before .double3 .last .1 .1 .1 .0) 64 72 64 hi (omega arith) (omega arith) (full8 (c .before) e)
+returns-5 c = λ e. filled-part (c .before .before .before .before .before .before .before .args .a) (c .before .double3 .last .1 .1 .1 .0) 64 72 64 (65 + c .before .before .before .before .before .before .before .args .top) (omega arith) (omega arith) (full3 (c .before) e)
 
 pub fill-up-spec : {M : Type 1} → statement M
 fill-up-spec =
@@ -84,8 +116,14 @@ fill-up-spec =
     double-requires
     double-requires-2
     double-requires-3
+    sub-least
+    least-requires
     double-requires-4
+    sub-least-2
+    least-requires-2
     double-requires-5
+    sub-least-3
+    least-requires-3
     double-requires-6
     double-requires-7
     returns

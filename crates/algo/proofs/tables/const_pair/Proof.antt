@@ -1,6 +1,5 @@
 -- `algo::const_pair` meets its contract. Assumes nothing.
-use mathlib.Core.Path.{_≡_, refl, sym, _∙_, ap}
-use lib.Ieee.{Float}
+use mathlib.Core.Path.{refl}
 use denote.Ref.{now}
 use borrow.Author.Needs.{needs}
 use Rattle.algo.specs.Table.{rowsOf}

@@ -1,9 +1,6 @@
 -- `algo::settled` meets its contract: 0.0 / 0.0 is a NaN. Assumes nothing.
-use mathlib.Core.Path.{_≡_}
-use mathlib.Core.Bool.{true, false}
 use lib.Ieee.{div, ofBits}
 use borrow.Author.Needs.{needs}
-use Rattle.common.specs.Outcome.{finite}
 use Rattle.common.proofs.Laws.{check-kept, check-lost}
 use Rattle.algo.proofs.tables.settled.Statement.{statement}
 use Rattle.algo.proofs.tables.settled.Tie as tie

@@ -1,6 +1,6 @@
 -- `backward::worked_by` meets its contract: each arm's proof has the shape of its equation. Assumes nothing.
 use mathlib.Core.Path.{sym}
-use lib.Ieee.{Float, binary64, div}
+use lib.Ieee.{binary64, div}
 use borrow.Author.Needs.{needs}
 use Rattle.state.proofs.Laws.{raw-sumOf, raw-first, raw-plus, raw-less, raw-scale, raw-under, named}
 use Rattle.backward.specs.Equation.{tableOf, workedBy}

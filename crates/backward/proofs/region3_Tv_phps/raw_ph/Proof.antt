@@ -1,12 +1,8 @@
 -- `backward::raw_ph` meets its contract: a dividing line that is lost is the answer, so nothing is hidden. Assumes nothing.
-use mathlib.Core.Path.{_≡_, sym, ap, _∙_}
-use mathlib.Core.Bool.{true, false}
-use lib.Ieee.{Float, le}
+use mathlib.Core.Path.{sym, _∙_}
 use borrow.Author.Needs.{needs}
-use Rattle.common.specs.Outcome.{Outcome, value, check, then, pick}
 use Rattle.common.proofs.Laws.{check-kept, check-lost}
-use Rattle.backward.specs.Equation.{worked}
-use Rattle.backward.specs.Backward.{h3ab, bySide-h}
+use Rattle.backward.specs.Backward.{bySide-h}
 use Rattle.backward.proofs.region3_Tv_phps.raw_ph.Statement.{statement}
 use Rattle.backward.proofs.region3_Tv_phps.raw_ph.Tie as tie
 

@@ -1,7 +1,6 @@
 -- `helmholtz::property::Td_thermal_reg3` meets its contract: an arm for each number, and 6 for any other. Assumes nothing.
 use mathlib.Core.Path.{sym}
-use Rattle.helmholtz.specs.Property.{properties}
-use Rattle.helmholtz.proofs.Numbers.{numbered, Passed, none, arm}
+use Rattle.helmholtz.proofs.Numbers.{numbered, Passed, unknown, arm}
 use Rattle.helmholtz.proofs.property.Td_thermal_reg3.Statement.{statement}
 use Rattle.helmholtz.proofs.property.Td_thermal_reg3.Tie as tie
 
@@ -82,7 +81,7 @@ returns-25 c = let k = c .before .before in arm _ _ (numbered (k .before .fits .
 
 returns-26 : tie.Need-returns-26
 unfolding Passed
-returns-26 c = rw (none (c .before .args .o-id) Unit properties (c .match .rest) .1)
+returns-26 c = let a = c .before .args in unknown (a .o-id) (a .t .0) (a .d .0) (c .match .rest)
 
 pub Td-thermal-reg3-spec : {M : Type 1} → statement M
 Td-thermal-reg3-spec =

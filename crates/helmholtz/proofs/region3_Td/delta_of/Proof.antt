@@ -2,7 +2,7 @@
 use lib.Ieee.{ofBits}
 use mathlib.Core.Path.{refl}
 use Rattle.common.specs.Decimal.{whole, scaled}
-use Rattle.rules.proofs.Formulas.{Raw, raw-div}
+use Rattle.rules.proofs.Formulas.{raw-div}
 use Rattle.helmholtz.proofs.Steps.{gives, given, ρc}
 use Rattle.helmholtz.proofs.region3_Td.delta_of.Statement.{statement}
 use Rattle.helmholtz.proofs.region3_Td.delta_of.Tie as tie

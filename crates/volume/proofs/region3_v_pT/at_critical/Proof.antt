@@ -1,12 +1,12 @@
 -- `volume::at_critical` meets its contract: in the box both differences are finite. Assumes nothing.
 use mathlib.Core.Path.{_≡_, sym, ap, _∙_}
-use mathlib.Core.Bool.{Bool, true, false}
-use lib.Ieee.{Float, binary64, sub, lt, ofBits, round}
+use mathlib.Core.Bool.{true, false}
+use lib.Ieee.{binary64, sub, lt, ofBits, round}
 use borrow.Author.Needs.{needs}
-use Rattle.common.specs.Outcome.{Outcome, value, then, pick}
+use Rattle.common.specs.Outcome.{value}
 use Rattle.common.specs.Decimal.{decimal, whole, scaled}
-use Rattle.common.specs.Constant.{P-TOL, T-TOL, TC-WATER, PC-WATER}
-use Rattle.volume.specs.Found.{near, sizeOf}
+use Rattle.common.specs.Constant.{T-TOL, TC-WATER}
+use Rattle.volume.specs.Found.{sizeOf}
 use Rattle.volume.proofs.Critical.{near-T, near-p}
 use Rattle.volume.proofs.region3_v_pT.at_critical.Statement.{statement}
 use Rattle.volume.proofs.region3_v_pT.at_critical.Tie as tie

@@ -1,18 +1,16 @@
 -- `volume::found_at` meets its contract: the critical point, then the letter's equation. Assumes nothing.
-use mathlib.Core.Path.{_≡_, refl, sym, ap, _∙_}
-use mathlib.Core.Bool.{Bool, true, false}
-use lib.Ieee.{Float, div, ofBits, round}
+use mathlib.Core.Path.{_≡_, sym, ap, _∙_}
+use mathlib.Core.Bool.{true, false}
+use lib.Ieee.{ofBits, round}
 use borrow.Author.Needs.{needs}
-use Rattle.common.specs.Outcome.{Outcome, value, refused, then, pick}
-use Rattle.common.specs.Answer.{numberOf}
+use Rattle.common.specs.Outcome.{value, then}
 use Rattle.common.specs.Decimal.{decimal, whole, scaled}
 use Rattle.letter.specs.Letter.{chosen}
-use Rattle.letter.specs.declared.Letter.{Letter}
 use Rattle.letter.specs.declared.Choice.{Choice}
 use Rattle.boundary.specs.Choice.{letterAt, letterRule}
 use Rattle.volume.specs.declared.Origin.the-variants.{Subregion}
 use Rattle.volume.specs.Equation.{volumeAt}
-use Rattle.volume.specs.Found.{State, stateOf, atCritical, foundAt}
+use Rattle.volume.specs.Found.{stateOf, atCritical, foundAt}
 use Rattle.volume.proofs.region3_v_pT.found_at.Statement.{statement}
 use Rattle.volume.proofs.region3_v_pT.found_at.Tie as tie
 

@@ -1,5 +1,5 @@
 -- `volume::volume_by` meets its contract: each arm's proof has the shape of its equation. Assumes nothing.
-use mathlib.Core.Path.{_≡_, sym, ap, _∙_, subst}
+use mathlib.Core.Path.{sym, ap, _∙_, subst}
 use lib.Dec.{T}
 use lib.IntN.{pos}
 use lib.Ieee.{Float, binary64, div, sub, fits}

@@ -1,0 +1,67 @@
+// Times three proved table sums beside the plain Rust at the same points in one run, and compares every bit: POINTS REPEATS.
+// No headers: it is compiled for x86-64 by the kit's clang where the host is another.
+typedef unsigned long size;
+typedef double sum(double, double);
+
+sum sum_30, sum_ph2t_3a, sum_pt2v_3a, plain_30, plain_ph2t_3a, plain_pt2v_3a;
+
+struct timespec { long seconds, nanoseconds; };
+int clock_gettime(int, struct timespec *);
+int printf(const char *, ...);
+void *malloc(size);
+long atol(const char *);
+
+static double now(void) {
+    struct timespec t;
+    clock_gettime(1, &t);
+    return t.seconds * 1e9 + t.nanoseconds;
+}
+
+static size state = 1;
+static double uniform(double from, double to) {
+    size z = state += 0x9e3779b97f4a7c15;
+    z = (z ^ z >> 30) * 0xbf58476d1ce4e5b9;
+    z = (z ^ z >> 27) * 0x94d049bb133111eb;
+    return from + (to - from) * ((z ^ z >> 31) >> 11) * 0x1p-53;
+}
+
+static double median(double *x, size n) {
+    for (size i = 1; i < n; i++)
+        for (size j = i; j > 0 && x[j] < x[j - 1]; j--) {
+            double y = x[j];
+            x[j] = x[j - 1];
+            x[j - 1] = y;
+        }
+    return x[n / 2];
+}
+
+static double timed(sum *f, const double *x, const double *y, double *v, size n) {
+    double from = now();
+    for (size i = 0; i < n; i++) v[i] = f(x[i], y[i]);
+    return (now() - from) / n;
+}
+
+static void table(const char *name, sum *proved, sum *plain, double x0, double x1, double y0, double y1, size n, size repeats) {
+    double *x = malloc(8 * n), *y = malloc(8 * n), *v[2] = {malloc(8 * n), malloc(8 * n)}, a[64], b[64];
+    for (size i = 0; i < n; i++) {
+        x[i] = uniform(x0, x1);
+        y[i] = uniform(y0, y1);
+    }
+    for (size r = 0; r < repeats; r++) {
+        a[r] = timed(proved, x, y, v[0], n);
+        b[r] = timed(plain, x, y, v[1], n);
+    }
+    size differ = 0;
+    for (size i = 0; i < n; i++) differ += ((size *)v[0])[i] != ((size *)v[1])[i];
+    double p = median(a, repeats), q = median(b, repeats);
+    printf("%s: points %lu differ %lu; proved %.1f ns, plain Rust %.1f ns a sum (medians of %lu); ratio %.2f\n", name, n, differ, p, q, repeats, p / q);
+}
+
+int main(int n, char **words) {
+    size points = n > 1 ? atol(words[1]) : 100000, repeats = n > 2 ? atol(words[2]) : 9;
+    if (repeats > 63) repeats = 63;
+    table("table 30 of R7-97", sum_30, plain_30, 0.31, 2.5, 0.75, 1.04, points, repeats);
+    table("table 3 of S03rev", sum_ph2t_3a, plain_ph2t_3a, 0.4, 1.24, 0.04, 0.3, points, repeats);
+    table("table A1.1 of S05rev", sum_pt2v_3a, plain_pt2v_3a, 0.315, 0.915, 0.005, 0.12, points, repeats);
+    return 0;
+}

@@ -1,0 +1,43 @@
+// The plain Rust that the proved sums are measured against: poly_powi of algo/polynomial.rs over rows, raw f64, each power by the
+// written rule, one finiteness test a sum.
+mod tables {
+    include!(env!("TABLES"));
+}
+
+fn power(a: f64, n: i32) -> f64 {
+    let (mut r, mut a, mut k) = (1.0, a, n.unsigned_abs());
+    loop {
+        if k & 1 == 1 {
+            r *= a;
+        }
+        k >>= 1;
+        if k == 0 {
+            break;
+        }
+        a *= a;
+    }
+    if n < 0 { 1.0 / r } else { r }
+}
+
+fn poly_powi(vi: f64, vj: f64, rows: &[(i32, i32, f64)]) -> f64 {
+    let mut sum = 0.0;
+    for &(i, j, n) in rows {
+        sum += n * power(vi, i) * power(vj, j);
+    }
+    if vi.is_finite() && vj.is_finite() && sum.is_finite() { sum } else { f64::NAN }
+}
+
+#[no_mangle]
+pub extern "C" fn plain_30(vi: f64, vj: f64) -> f64 {
+    poly_powi(vi, vj, &tables::BASIC)
+}
+
+#[no_mangle]
+pub extern "C" fn plain_ph2t_3a(vi: f64, vj: f64) -> f64 {
+    poly_powi(vi, vj, &tables::PH2T_3A)
+}
+
+#[no_mangle]
+pub extern "C" fn plain_pt2v_3a(vi: f64, vj: f64) -> f64 {
+    poly_powi(vi, vj, &tables::PT2V_3A)
+}
