@@ -3,7 +3,7 @@
 typedef unsigned long size;
 typedef double sum(double, double);
 
-sum sum_30, sum_ph2t_3a, sum_pt2v_3a, plain_30, plain_ph2t_3a, plain_pt2v_3a;
+sum sum_a, sum_f, sum_t, plain_a, plain_f, plain_t;
 
 struct timespec { long seconds, nanoseconds; };
 int clock_gettime(int, struct timespec *);
@@ -60,8 +60,8 @@ static void table(const char *name, sum *proved, sum *plain, double x0, double x
 int main(int n, char **words) {
     size points = n > 1 ? atol(words[1]) : 100000, repeats = n > 2 ? atol(words[2]) : 9;
     if (repeats > 63) repeats = 63;
-    table("table 30 of R7-97", sum_30, plain_30, 0.31, 2.5, 0.75, 1.04, points, repeats);
-    table("table 3 of S03rev", sum_ph2t_3a, plain_ph2t_3a, 0.4, 1.24, 0.04, 0.3, points, repeats);
-    table("table A1.1 of S05rev", sum_pt2v_3a, plain_pt2v_3a, 0.315, 0.915, 0.005, 0.12, points, repeats);
+    table("letter a", sum_a, plain_a, 0.315, 0.915, 0.005, 0.12, points, repeats);
+    table("letter f", sum_f, plain_f, 0.2, 0.64, 0.0, 0.29, points, repeats);
+    table("letter t", sum_t, plain_t, 0.024, 0.2, -0.06, 0.02, points, repeats);
     return 0;
 }

@@ -28,16 +28,16 @@ fn poly_powi(vi: f64, vj: f64, rows: &[(i32, i32, f64)]) -> f64 {
 }
 
 #[no_mangle]
-pub extern "C" fn plain_30(vi: f64, vj: f64) -> f64 {
-    poly_powi(vi, vj, &tables::BASIC)
+pub extern "C" fn plain_a(vi: f64, vj: f64) -> f64 {
+    poly_powi(vi, vj, &tables::A)
 }
 
 #[no_mangle]
-pub extern "C" fn plain_ph2t_3a(vi: f64, vj: f64) -> f64 {
-    poly_powi(vi, vj, &tables::PH2T_3A)
+pub extern "C" fn plain_f(vi: f64, vj: f64) -> f64 {
+    poly_powi(vi, vj, &tables::F)
 }
 
 #[no_mangle]
-pub extern "C" fn plain_pt2v_3a(vi: f64, vj: f64) -> f64 {
-    poly_powi(vi, vj, &tables::PT2V_3A)
+pub extern "C" fn plain_t(vi: f64, vj: f64) -> f64 {
+    poly_powi(vi, vj, &tables::T)
 }
