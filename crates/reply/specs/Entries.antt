@@ -1,7 +1,7 @@
 -- What each entry point answers, by its number: the library's own rules, a group to a module. Assumes nothing: these are definitions.
-use Prim.Native.Nat.{ℕ}
+use Prim.Native.Nat.{ℕ, _-_}
 use mathlib.Core.List.{List, [], _∷_}
-use lib.Dec.{eqb, leb}
+use lib.Dec.{eqb, leb, ltb}
 use lib.IntN.{ℤ}
 use lib.Ieee.{Float}
 use Rattle.common.specs.Outcome.{pick}
@@ -14,8 +14,16 @@ use Rattle.boundary.specs.declared.Boundary.{Boundary}
 use Rattle.boundary.specs.declared.Boundary.the-variants.{Ab, Cd, Ef, Gh, Ij, Jk, Mn, Op, Qu, Rx, Uv, Wx}
 use Rattle.boundary.specs.Boundary.{boundaryRule}
 use Rattle.boundary.specs.Choice.{letterRule}
+use Rattle.letter.specs.declared.Letter.{Letter}
+use Rattle.letter.specs.declared.Letter.the-variants as letters
+use Rattle.volume.specs.declared.Phase.{Phase}
+use Rattle.volume.specs.declared.Phase.the-variants.{Liquid, Steam}
+use Rattle.volume.specs.Found.{pT2v-reg3Rule, pT2v-3subregRule, pT2v-sat-reg3Rule}
+use Rattle.backward.specs.Backward.{ph2T-reg3Rule, ph2v-reg3Rule, ps2T-reg3Rule, ps2v-reg3Rule, hs2p-reg3Rule}
+use Rattle.helmholtz.specs.Property.{propertyRule}
+use Rattle.helmholtz.specs.Record.{recordRule}
 use Rattle.reply.specs.declared.Reply.{Reply}
-use Rattle.reply.specs.Shape.{oneOf, letterOf, unknown, placeOf, named}
+use Rattle.reply.specs.Shape.{oneOf, letterOf, recordOf, unknown, placeOf, named}
 
 -- 1 to 4: the four written rules
 unfoldable pub rulesReply : ℕ → ℤ → Float → Reply
@@ -41,9 +49,51 @@ linesReply entry n a b =
     (pick (eqb entry 7) (boundaryReply n a)
     (pick (eqb entry 8) (letterOf (letterRule a b)) unknown)))
 
+-- a volume equation by its letter's ASCII
+abbrev pub alphabet : List Letter
+alphabet =
+    letters.A ∷ letters.B ∷ letters.C ∷ letters.D ∷ letters.E ∷ letters.F ∷ letters.G ∷ letters.H ∷ letters.I ∷ letters.J ∷ letters.K ∷ letters.L ∷ letters.M
+    ∷ letters.N ∷ letters.O ∷ letters.P ∷ letters.Q ∷ letters.R ∷ letters.S ∷ letters.T ∷ letters.U ∷ letters.«V» ∷ letters.W ∷ letters.X ∷ letters.Y ∷ letters.Z
+    ∷ []
+
+unfoldable pub letterReply : ℤ → Float → Float → Reply
+letterReply n p t =
+    pick (ltb (placeOf n) 97) unknown
+    (named alphabet letters.A (placeOf n - 97) (λ l. oneOf (pT2v-3subregRule p t l)))
+
+-- a side of the saturation line by its number
+unfoldable pub phaseReply : ℤ → Float → Float → Reply
+phaseReply n p t = named (Liquid ∷ Steam ∷ []) Liquid (placeOf n) (λ x. oneOf (pT2v-sat-reg3Rule p t x))
+
+-- 9 to 11: the volume at (p,T)
+unfoldable pub volumesReply : ℕ → ℤ → Float → Float → Reply
+unfolding letterReply phaseReply
+volumesReply entry n a b =
+    pick (eqb entry 9) (letterReply n a b)
+    (pick (eqb entry 10) (oneOf (pT2v-reg3Rule a b))
+    (pick (eqb entry 11) (phaseReply n a b) unknown))
+
+-- 12 to 16: the backward equations
+unfoldable pub backwardReply : ℕ → Float → Float → Reply
+backwardReply entry a b =
+    pick (eqb entry 12) (oneOf (ph2T-reg3Rule a b))
+    (pick (eqb entry 13) (oneOf (ph2v-reg3Rule a b))
+    (pick (eqb entry 14) (oneOf (ps2T-reg3Rule a b))
+    (pick (eqb entry 15) (oneOf (ps2v-reg3Rule a b))
+    (pick (eqb entry 16) (oneOf (hs2p-reg3Rule a b)) unknown))))
+
+-- 20 to 25: records, and a property by its number
+unfoldable pub statesReply : ℕ → ℤ → Float → Float → Reply
+statesReply entry n a b =
+    pick (eqb entry 20) (recordOf (recordRule a b))
+    (pick (eqb entry 25) (oneOf (propertyRule n a b)) unknown)
+
 -- entry, number, first and second argument; a group of entries ends with its highest number
 unfoldable pub replyRule : ℕ → ℤ → Float → Float → Reply
-unfolding rulesReply linesReply
+unfolding rulesReply linesReply volumesReply backwardReply statesReply
 replyRule entry n a b =
     pick (leb entry 4) (rulesReply entry n a)
-    (pick (leb entry 8) (linesReply entry n a b) unknown)
+    (pick (leb entry 8) (linesReply entry n a b)
+    (pick (leb entry 11) (volumesReply entry n a b)
+    (pick (leb entry 16) (backwardReply entry a b)
+    (pick (leb entry 25) (statesReply entry n a b) unknown))))

@@ -8,6 +8,8 @@ use lib.Ieee.{Float}
 use Rattle.common.specs.Outcome.{Outcome, numberIn, valueIn, zeroF, pick}
 use Rattle.letter.specs.declared.Letter.{Letter}
 use Rattle.letter.specs.Letter.{byteIn}
+use Rattle.helmholtz.specs.declared.Record.{Record}
+use Rattle.helmholtz.specs.Record.{report}
 use Rattle.reply.specs.declared.Reply.{Reply}
 
 -- a call that is refused: no letter, and +0.0 in every place
@@ -21,6 +23,17 @@ oneOf o = record { refusal = numberIn o; letter = 0; numbers = valueIn o ∷ rep
 -- a call for a letter has no number
 abbrev pub letterOf : Outcome Letter → Reply
 letterOf o = record { refusal = numberIn o; letter = byteIn o; numbers = replicate 10 zeroF }
+
+-- a record's numbers, in document 01's order
+abbrev pub numbersOf : Record → List Float
+numbersOf x = x .T ∷ x .d ∷ x .v ∷ x .p ∷ x .h ∷ x .s ∷ x .u ∷ x .cv ∷ x .cp ∷ x .w ∷ []
+
+-- a call for a record
+abbrev pub reported : Outcome Unit × Record → Reply
+reported a = record { refusal = numberIn (a .0); letter = 0; numbers = numbersOf (a .1) }
+
+abbrev pub recordOf : Outcome Record → Reply
+recordOf o = reported (report o)
 
 -- no such entry, boundary, letter or phase
 abbrev pub unknown : Reply

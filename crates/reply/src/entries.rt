@@ -5,13 +5,22 @@ use crate::shape::choice;
 use crate::shape::one;
 use crate::shape::place;
 use crate::shape::refused;
+use crate::shape::whole;
 use boundary::Boundary;
 use boundary::T_atRegionBoundary;
 use boundary::sub_region3_pT;
+use common::KJPerKg;
+use common::KJPerKgK;
 use common::Kelvin;
+use common::KgPerM3;
 use common::MPa;
+use letter::Letter;
+use volume::Phase;
+use volume::pT2v_3subreg;
+use volume::pT2v_reg3;
+use volume::pT2v_sat_reg3;
 ghost use mathlib.Core.Path.{_≡_};
-ghost use Rattle.reply.specs.Entries.{rulesReply, boundaryReply, linesReply};
+ghost use Rattle.reply.specs.Entries.{rulesReply, boundaryReply, linesReply, letterReply, phaseReply, volumesReply, backwardReply, statesReply};
 
 // 1 to 4: the four written rules.
 pub fn by_rules(entry: u8, n: i32, a: f64) -> Reply
@@ -61,6 +70,100 @@ pub fn by_lines(entry: u8, n: i32, a: f64, b: f64) -> Reply
         6 => one(r4::T_saturation(MPa(a))),
         7 => by_boundary(n, a),
         8 => choice(sub_region3_pT(MPa(a), Kelvin(b))),
+        _ => refused(UNKNOWN),
+    }
+}
+
+// A volume equation by its letter's ASCII.
+fn by_letter(n: i32, p: f64, t: f64) -> Reply
+    ensures { λ r. ⌜ r ≡ letterReply n p t ⌝ }
+{
+    let k = place(n);
+    if k < 97 {
+        return refused(UNKNOWN);
+    }
+    let j = k - 97;
+    if j < 26 {
+        let alphabet = [
+            Letter::A,
+            Letter::B,
+            Letter::C,
+            Letter::D,
+            Letter::E,
+            Letter::F,
+            Letter::G,
+            Letter::H,
+            Letter::I,
+            Letter::J,
+            Letter::K,
+            Letter::L,
+            Letter::M,
+            Letter::N,
+            Letter::O,
+            Letter::P,
+            Letter::Q,
+            Letter::R,
+            Letter::S,
+            Letter::T,
+            Letter::U,
+            Letter::V,
+            Letter::W,
+            Letter::X,
+            Letter::Y,
+            Letter::Z,
+        ];
+        let l = alphabet[j];
+        return one(pT2v_3subreg(MPa(p), Kelvin(t), l));
+    }
+    refused(UNKNOWN)
+}
+
+// A side of the saturation line by its number.
+fn by_phase(n: i32, p: f64, t: f64) -> Reply
+    ensures { λ r. ⌜ r ≡ phaseReply n p t ⌝ }
+{
+    let k = place(n);
+    if k < 2 {
+        let phases = [Phase::Liquid, Phase::Steam];
+        let x = phases[k];
+        return one(pT2v_sat_reg3(MPa(p), Kelvin(t), x));
+    }
+    refused(UNKNOWN)
+}
+
+// 9 to 11: the volume at (p,T).
+pub fn by_volumes(entry: u8, n: i32, a: f64, b: f64) -> Reply
+    ensures { λ r. ⌜ r ≡ volumesReply entry n a b ⌝ }
+{
+    match entry {
+        9 => by_letter(n, a, b),
+        10 => one(pT2v_reg3(MPa(a), Kelvin(b))),
+        11 => by_phase(n, a, b),
+        _ => refused(UNKNOWN),
+    }
+}
+
+// 12 to 16: the backward equations.
+pub fn by_backward(entry: u8, a: f64, b: f64) -> Reply
+    ensures { λ r. ⌜ r ≡ backwardReply entry a b ⌝ }
+{
+    match entry {
+        12 => one(backward::ph2T_reg3(MPa(a), KJPerKg(b))),
+        13 => one(backward::ph2v_reg3(MPa(a), KJPerKg(b))),
+        14 => one(backward::ps2T_reg3(MPa(a), KJPerKgK(b))),
+        15 => one(backward::ps2v_reg3(MPa(a), KJPerKgK(b))),
+        16 => one(backward::hs2p_reg3(KJPerKg(a), KJPerKgK(b))),
+        _ => refused(UNKNOWN),
+    }
+}
+
+// 20 to 25: records, and a property by its number.
+pub fn by_states(entry: u8, n: i32, a: f64, b: f64) -> Reply
+    ensures { λ r. ⌜ r ≡ statesReply entry n a b ⌝ }
+{
+    match entry {
+        20 => whole(helmholtz::Td_reg3(Kelvin(a), KgPerM3(b))),
+        25 => one(helmholtz::Td_thermal_reg3(Kelvin(a), KgPerM3(b), n)),
         _ => refused(UNKNOWN),
     }
 }

@@ -4,8 +4,11 @@ mod page;
 mod shape;
 mod stored;
 
+use entries::by_backward;
 use entries::by_lines;
 use entries::by_rules;
+use entries::by_states;
+use entries::by_volumes;
 pub use page::answer_rows;
 use shape::UNKNOWN;
 use shape::refused;
@@ -29,6 +32,15 @@ pub fn answer(entry: u8, n: i32, a: f64, b: f64) -> Reply
     }
     if entry <= 8 {
         return by_lines(entry, n, a, b);
+    }
+    if entry <= 11 {
+        return by_volumes(entry, n, a, b);
+    }
+    if entry <= 16 {
+        return by_backward(entry, a, b);
+    }
+    if entry <= 25 {
+        return by_states(entry, n, a, b);
     }
     refused(UNKNOWN)
 }

@@ -1,14 +1,18 @@
-// The shapes of a reply: a refusal, one number, a letter.
+// The shapes of a reply: a refusal, one number, a letter, a record.
 use crate::Reply;
 use common::Answer;
+use common::Verdict;
 use common::number;
+use helmholtz::RecordAnswer;
 use letter::Choice;
 use letter::letter_byte;
 use letter::refusal_byte;
 ghost use mathlib.Core.Path.{_≡_};
-ghost use Rattle.common.specs.Answer.{paper};
+ghost use Rattle.common.specs.Outcome.{numberIn};
+ghost use Rattle.common.specs.Answer.{paper, verdict};
 ghost use Rattle.letter.specs.Letter.{chosen};
-ghost use Rattle.reply.specs.Shape.{refusedBy, oneOf, letterOf, placeOf};
+ghost use Rattle.helmholtz.specs.Record.{paperRecord};
+ghost use Rattle.reply.specs.Shape.{refusedBy, oneOf, letterOf, reported, placeOf};
 
 // The refusal of an entry, a boundary, a letter or a phase that does not exist.
 pub const UNKNOWN: u8 = 255;
@@ -44,6 +48,27 @@ pub fn choice(c: Choice) -> Reply
         refusal: refusal_byte(c),
         letter: letter_byte(c),
         numbers,
+    }
+}
+
+fn verdict_byte(v: Verdict) -> u8
+    ensures { λ r. ⌜ r ≡ numberIn (verdict v) ⌝ }
+{
+    match v {
+        Verdict::Accepted => 0,
+        Verdict::Refused(k) => number(k),
+    }
+}
+
+pub fn whole(a: RecordAnswer) -> Reply
+    ensures { λ r. ⌜ r ≡ reported (paperRecord a) ⌝ }
+{
+    let v = a.verdict;
+    let x = a.record;
+    Reply {
+        refusal: verdict_byte(v),
+        letter: 0,
+        numbers: [x.T, x.d, x.v, x.p, x.h, x.s, x.u, x.cv, x.cp, x.w],
     }
 }
 

@@ -1,0 +1,89 @@
+-- The column run beside the record and the letter choice. Assumes nothing.
+use mathlib.Core.Path.{_≡_, refl, sym, ap, _∙_}
+use mathlib.Core.Bool.{Bool, true, false}
+use Prim.Native.Nat.{ℕ}
+use native.Mathlib.Omega.{arith}
+use lib.Ieee.{Float}
+use Rattle.common.specs.Outcome.{Outcome, value, refused, then, pick, check}
+use Rattle.common.specs.Decimal.{whole}
+use Rattle.common.specs.Constant.{DC-WATER, P-FROM, P-TO, T-FROM, T-TO}
+use Rattle.common.specs.Range.{pairRule}
+use Rattle.rules.specs.Formula.{_⊘_}
+use Rattle.state.specs.State.{densityOf}
+use Rattle.letter.specs.Letter.{byteIn}
+use Rattle.letter.specs.declared.Letter.{Letter}
+use Rattle.boundary.specs.Choice.{letterAt, letterRule}
+use Rattle.volume.specs.Equation.{volumeAt}
+use Rattle.volume.specs.declared.Origin.{Origin}
+use Rattle.volume.specs.declared.Origin.the-variants.{Subregion, Critical}
+use Rattle.volume.specs.Found.{State, byteOf, stateOf, atCritical, foundAt, foundRule}
+use Rattle.helmholtz.specs.Record.{recordSteps, recordAfter, pressureFrom}
+use Rattle.helmholtz.specs.Td.{Td2h, Td2s, Td2u, Td2cv, Td2cp, Td2w}
+use Rattle.helmholtz.specs.declared.Record.{Record}
+use Rattle.helmholtz.specs.declared.Pressure.{Pressure}
+use Rattle.helmholtz.specs.declared.Pressure.the-variants.{Worked}
+use Rattle.region3.specs.Entries.{pTRule}
+use Rattle.region3.specs.Columns.{lineIn, rowRule, letterIn, densityIn, refusalIn}
+
+no-value : {B : Type 0} (n : ℕ) (b : B) → _≡_ {A = Outcome B} (refused n) (value b) → ⊥
+no-value n b e = let z : _≡_ {A = ℕ} 0 1 = cc in omega arith
+
+-- where a step goes on to a value, it gave one
+went-on : {A B : Type 0} (o : Outcome A) (f : A → Outcome B) (b : B) (C : Type 0) → then o f ≡ value b → ((a : A) → o ≡ value a → f a ≡ value b → C) → C
+went-on (value a) f b C e k = k a refl e
+went-on (refused n) f b C e k = absurd (no-value n b e)
+
+-- a record's T, d and v are those of the state that it is worked from
+record-d : (t d v : Float) (source : Pressure) (r : Record) → recordSteps t d v source ≡ value r → r .d ≡ d
+unfolding recordSteps recordAfter
+record-d t d v source r e =
+    went-on (check v) _ r _ e (λ v₁ _ e₁.
+    went-on (pressureFrom source (check t) (check d)) _ r _ e₁ (λ p _ e₂.
+    went-on (Td2h (check t) (check d)) _ r _ e₂ (λ h _ e₃.
+    went-on (Td2s (check t) (check d)) _ r _ e₃ (λ s _ e₄.
+    went-on (Td2u (check t) (check d)) _ r _ e₄ (λ u _ e₅.
+    went-on (Td2cv (check t) (check d)) _ r _ e₅ (λ cv _ e₆.
+    went-on (Td2cp (check t) (check d)) _ r _ e₆ (λ cp _ e₇.
+    went-on (Td2w (check t) (check d)) _ r _ e₇ (λ w _ e₈. cc))))))))
+
+-- wherever (p,T) answers a record, the column run accepts the row and its density is the record's d
+pub density-is : (p t : Float) (r : Record) → pTRule p t ≡ value r → (densityIn p t ≡ r .d) × (refusalIn p t ≡ 0)
+unfolding pTRule rowRule
+density-is p t r e =
+    went-on (foundRule p t) _ r _ e (λ s h k. (
+      ap (λ (o : Outcome State). lineIn o .density) h ∙ sym (record-d t (s .d) (s .v) Worked r k),
+      ap (λ (o : Outcome State). lineIn o .refusal) h,
+    ))
+
+-- the origin of what is found is that of the equation
+origin-is : (o : Origin) (q : Outcome Float) (s : State) → stateOf o q ≡ value s → s .origin ≡ o
+origin-is o q s e = went-on q _ s _ e (λ v _ e₁. went-on (densityOf (value v)) _ s _ e₁ (λ d _ e₂. cc))
+
+found-by : (p t : Float) (b : Bool) → atCritical p t ≡ value b
+    → foundAt p t ≡ pick b (stateOf Critical (value (whole 1) ⊘ value DC-WATER)) (then (letterAt p t) (λ l. stateOf (Subregion l) (volumeAt l p t)))
+unfolding foundAt
+found-by p t b f = rw f
+
+letter-by : (p t : Float) (u : Unit) (l : Letter) → pairRule P-FROM P-TO p T-FROM T-TO t ≡ value u → letterAt p t ≡ value l → letterRule p t ≡ value l
+unfolding letterRule
+letter-by p t u l box h = rw box h
+
+module _ (p t : Float) (s : State) (accepted : foundRule p t ≡ value s) where
+  byte-is : letterIn p t ≡ byteOf (s .origin)
+  unfolding rowRule
+  byte-is = ap (λ (o : Outcome State). lineIn o .letter) accepted
+
+  -- wherever the column run accepts a row that is not the critical point's, its letter is the letter choice's
+  pub letter-is : atCritical p t ≡ value false → letterIn p t ≡ byteIn (letterRule p t)
+  unfolding foundRule
+  letter-is f =
+      went-on (pairRule P-FROM P-TO p T-FROM T-TO t) _ s _ accepted (λ u box e.
+      went-on (letterAt p t) (λ l. stateOf (Subregion l) (volumeAt l p t)) s _ (sym (found-by p t false f) ∙ e) (λ l h e₁.
+      byte-is ∙ ap byteOf (origin-is (Subregion l) (volumeAt l p t) s e₁) ∙ sym (ap byteIn (letter-by p t u l box h))))
+
+  -- at the critical point there is none
+  pub critical-is : atCritical p t ≡ value true → letterIn p t ≡ 0
+  unfolding foundRule
+  critical-is f =
+      went-on (pairRule P-FROM P-TO p T-FROM T-TO t) _ s _ accepted (λ _ _ e.
+      byte-is ∙ ap byteOf (origin-is Critical (value (whole 1) ⊘ value DC-WATER) s (sym (found-by p t true f) ∙ e)))

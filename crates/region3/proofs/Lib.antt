@@ -1,0 +1,4 @@
+pub mod Rows
+pub mod States
+pub mod Agree
+pub mod Unique

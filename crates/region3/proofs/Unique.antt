@@ -1,0 +1,50 @@
+-- Each contract admits one answer, and the column run's one content of each byte of the three columns. The theorems are about the contracts' own
+-- readings, `Reads.Post`. Assumes nothing.
+use mathlib.Core.Path.{_≡_, refl, sym, ap, _∙_}
+use denote.Ref.{now}
+use contract.Lifetimes.{Lfts}
+use denote.Triple.Clauses.{AtExit}
+use borrow.Fn.Kinds.{Dens, endedOf, resT}
+use Rattle.common.specs.Outcome.{Outcome}
+use Rattle.common.proofs.Same.{One, same-verdict}
+use Rattle.helmholtz.proofs.Unique.{same-record}
+use Rattle.region3.specs.Columns.{Lent}
+use Rattle.region3.proofs.region3.pT_reg3.Kinds as pT-reg3-kinds
+use Rattle.region3.proofs.region3.pT_reg3.Reads as pT-reg3
+use Rattle.region3.proofs.region3.ph_reg3.Kinds as ph-reg3-kinds
+use Rattle.region3.proofs.region3.ph_reg3.Reads as ph-reg3
+use Rattle.region3.proofs.region3.ps_reg3.Kinds as ps-reg3-kinds
+use Rattle.region3.proofs.region3.ps_reg3.Reads as ps-reg3
+use Rattle.region3.proofs.region3.hs_reg3.Kinds as hs-reg3-kinds
+use Rattle.region3.proofs.region3.hs_reg3.Reads as hs-reg3
+use Rattle.region3.proofs.column_run.row.Kinds as row-kinds
+use Rattle.region3.proofs.column_run.row.Reads as row
+use Rattle.region3.proofs.column_run.columns.Kinds as columns-kinds
+use Rattle.region3.proofs.column_run.columns.Reads as columns
+
+pub pT-reg3-one : One 0 pT-reg3-kinds.ps pT-reg3-kinds.r pT-reg3.Post
+pT-reg3-one κs a e x y p q = same-record _ x y p q
+
+pub ph-reg3-one : One 0 ph-reg3-kinds.ps ph-reg3-kinds.r ph-reg3.Post
+ph-reg3-one κs a e x y p q = same-record _ x y p q
+
+pub ps-reg3-one : One 0 ps-reg3-kinds.ps ps-reg3-kinds.r ps-reg3.Post
+ps-reg3-one κs a e x y p q = same-record _ x y p q
+
+pub hs-reg3-one : One 0 hs-reg3-kinds.ps hs-reg3-kinds.r hs-reg3.Post
+hs-reg3-one κs a e x y p q = same-record _ x y p q
+
+pub row-one : One 0 row-kinds.ps row-kinds.r row.Post
+row-one κs a e x y p q = p ∙ sym q
+
+-- the answer, the letters, the densities and the refusals
+pub columns-one : (κs : Lfts 5) (a : Dens κs columns-kinds.ps) (d e : AtExit (endedOf 5 columns-kinds.ps columns-kinds.r) κs) (x y : resT columns-kinds.r κs .Denot) →
+    columns.Post κs a x d → columns.Post κs a y e →
+    (x ≡ y) × (now (d .1 .1 .0) ≡ now (e .1 .1 .0)) × (now (d .1 .1 .1 .0) ≡ now (e .1 .1 .1 .0)) × (now (d .1 .1 .1 .1 .0) ≡ now (e .1 .1 .1 .1 .0))
+columns-one κs a d e x y p q =
+    let h = p ∙ sym q in (
+      same-verdict _ x y (ap (λ (o : Outcome Unit × Lent). o .0) h) refl,
+      ap (λ (o : Outcome Unit × Lent). o .1 .letters) h,
+      ap (λ (o : Outcome Unit × Lent). o .1 .densities) h,
+      ap (λ (o : Outcome Unit × Lent). o .1 .refusals) h,
+    )

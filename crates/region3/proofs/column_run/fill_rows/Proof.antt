@@ -1,0 +1,77 @@
+-- `region3::column_run::fill_rows` meets its contract: after i turns the first i rows of each column are written. Assumes nothing.
+use mathlib.Core.Path.{ap, _∙_}
+use Prim.Native.Nat.{_≤_, _<_, _-_}
+use native.Mathlib.Omega.{arith}
+use lib.ListN.{length}
+use lib.Ieee.{nan}
+use borrow.Author.Needs.{needs}
+use Rattle.region3.specs.declared.Line.{Line}
+use Rattle.region3.specs.Columns.{letterIn, densityIn, refusalIn}
+use Rattle.region3.proofs.Rows.{Filled, filled-none, filled-more, filled-all}
+use Rattle.region3.proofs.column_run.fill_rows.Statement.{statement}
+use Rattle.region3.proofs.column_run.fill_rows.Tie as tie
+
+abbrev Inv-loop : tie.InvT-loop
+Inv-loop ps ts letters₀ densities₀ refusals₀ i₀ letters densities refusals i =
+    (i ≤ length ps) × Filled letterIn 0 ps ts i letters × Filled densityIn nan ps ts i densities × Filled refusalIn 0 ps ts i refusals
+
+abbrev μ-loop : tie.MeasureT-loop
+μ-loop ps ts letters₀ densities₀ refusals₀ i₀ letters densities refusals i = length ps - i
+
+loop-holds : tie.Need-loop-holds Inv-loop μ-loop
+loop-holds c =
+    let s = c .before .before .before .before .before in
+    let a = s .args in (
+      omega arith,
+      filled-none letterIn 0 (a .ps .now) (a .ts .now) (a .letters .now) (s .pre .1),
+      filled-none densityIn nan (a .ps .now) (a .ts .now) (a .densities .now) (s .pre .2),
+      filled-none refusalIn 0 (a .ps .now) (a .ts .now) (a .refusals .now) (s .pre .3),
+    )
+
+loop-again : tie.Need-loop-again Inv-loop μ-loop
+loop-again c =
+    let l = c .before .before .before .before in
+    let a = l .before .before .before .before .before .before .args in
+    let i = l .loop .i in
+    let h : i < length (a .ps .now) = omega arith in
+    let e = c .row .ensures in (
+      omega arith,
+      filled-more letterIn 0 (a .ps .now) (a .ts .now) i (l .loop .letters) (c .row .result .letter) h (l .loop .inv .1) (ap (λ (r : Line). r .letter) e),
+      filled-more densityIn nan (a .ps .now) (a .ts .now) i (l .loop .densities) (c .row .result .density) h (l .loop .inv .2) (ap (λ (r : Line). r .density) e),
+      filled-more refusalIn 0 (a .ps .now) (a .ts .now) i (l .loop .refusals) (c .row .result .refusal) h (l .loop .inv .3) (ap (λ (r : Line). r .refusal) e),
+    )
+
+returns : tie.Need-returns Inv-loop μ-loop
+returns c =
+    let l = c .before in
+    let s = l .before .before .before .before .before .before in
+    let a = s .args in
+    let i = l .loop .i in (
+      filled-all letterIn 0 (a .ps .now) (a .ts .now) i (l .loop .letters) (s .pre .0) (c .loop-test .left) (l .loop .inv .1),
+      (filled-all densityIn nan (a .ps .now) (a .ts .now) i (l .loop .densities) (s .pre .0) (c .loop-test .left) (l .loop .inv .2),
+      filled-all refusalIn 0 (a .ps .now) (a .ts .now) i (l .loop .refusals) (s .pre .0) (c .loop-test .left) (l .loop .inv .3)),
+    )
+
+pub fill-rows-spec : {M : Type 1} → statement M
+fill-rows-spec =
+    tie.close
+    (tie.spec
+    Inv-loop
+    μ-loop
+    loop-holds
+    (λ c. omega arith)
+    (λ c. omega arith)
+    (λ c. omega arith)
+    (λ c. omega arith)
+    (λ c κs. search needs)
+    (λ c. omega arith)
+    (λ c. omega arith)
+    (λ c. omega arith)
+    (λ c. omega arith)
+    (λ c. omega arith)
+    (λ c. omega arith)
+    loop-again
+    (λ c. omega arith)
+    (λ c. omega arith)
+    (λ c. omega arith)
+    returns)

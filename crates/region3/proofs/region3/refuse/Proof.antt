@@ -1,0 +1,12 @@
+-- `region3::region3::refuse` meets its contract. Assumes nothing.
+use mathlib.Core.Path.{refl}
+use lib.Ieee.{ofBits}
+use Rattle.region3.proofs.region3.refuse.Statement.{statement}
+use Rattle.region3.proofs.region3.refuse.Tie as tie
+
+returns : tie.Need-returns
+unfolding ofBits
+returns c = refl
+
+pub refuse-spec : {M : Type 1} → statement M
+refuse-spec = tie.close (tie.spec returns)

@@ -1,0 +1,53 @@
+-- `reply::entries::by_phase` meets its contract. Assumes nothing.
+use mathlib.Core.Path.{_≡_, sym, ap, _∙_}
+use mir.Syntax.{w32}
+use mir.ValLaws.{toZ-ofZ}
+use borrow.Author.Tests.{lt-ltb, le-ltb}
+use Rattle.reply.specs.Shape.{oneOf, placeOf}
+use Rattle.reply.specs.Entries.{phaseReply}
+use borrow.Author.Needs.{needs}
+use Rattle.reply.proofs.entries.by_phase.Statement.{statement}
+use Rattle.reply.proofs.entries.by_phase.Tie as tie
+
+place-requires : tie.Need-place-requires
+place-requires c κs = search needs
+
+array-copy-out-x : tie.Need-array-copy-out-x
+array-copy-out-x c = search needs
+
+pT2v-sat-reg3-requires : tie.Need-pT2v-sat-reg3-requires
+pT2v-sat-reg3-requires c κs = search needs
+
+one-requires : tie.Need-one-requires
+one-requires c κs = search needs
+
+returns : tie.Need-returns
+unfolding phaseReply
+returns c =
+    let s = c .before .before .before .before .before in
+    let k = c .before .before .before .before .place in
+    let e : k .result ≡ placeOf (s .args .n) = rw (toZ-ofZ w32 (s .args .n) (s .fits .n)) at (k .ensures) in
+    rw (sym e, lt-ltb (k .result) 2 (c .before .before .before .if1 .taken)) (c .one .ensures ∙ ap oneOf (c .before .pT2v-sat-reg3 .ensures))
+
+refused-requires : tie.Need-refused-requires
+refused-requires c κs = search needs
+
+returns-2 : tie.Need-returns-2
+unfolding phaseReply
+returns-2 c =
+    let s = c .before .before .before in
+    let k = c .before .before .place in
+    let e : k .result ≡ placeOf (s .args .n) = rw (toZ-ofZ w32 (s .args .n) (s .fits .n)) at (k .ensures) in
+    rw (sym e, le-ltb (k .result) 2 (c .before .if1 .left)) (c .refused .ensures)
+
+pub by-phase-spec : {M : Type 1} → statement M
+by-phase-spec =
+    tie.close
+    (tie.spec
+    place-requires
+    array-copy-out-x
+    pT2v-sat-reg3-requires
+    one-requires
+    returns
+    refused-requires
+    returns-2)
