@@ -25,7 +25,7 @@ term-check x fx (row i n) h =
     rw (power-check x i fx (T-true (leb (natAbs i) 64) h), inside-check (rawPower x i))
     (step (rawPower x i) (λ w. check (mul binary64 n w)) (λ w. mul binary64 n w) (λ _. refl) (mul-right n (rawPower x i)))
 
-sum-check : (x : Float) → finite x ≡ true → (rs : List Row) → T (every small rs) → total (term x) zeroF rs ≡ check (rawTotal (rawTerm x) zeroF rs)
+pub sum-check : (x : Float) → finite x ≡ true → (rs : List Row) → T (every small rs) → total (term x) zeroF rs ≡ check (rawTotal (rawTerm x) zeroF rs)
 sum-check x fx rs h = total-check (term x) (rawTerm x) small (term-check x fx) zeroF rs refl h
 
 -- ---- A table's first two exponents are 0 and 1. Of a lost x the first row is refused, and the second loses the raw sum: so the law holds of any x.

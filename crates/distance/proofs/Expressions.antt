@@ -16,15 +16,14 @@ use Rattle.common.specs.Outcome.{Outcome, finite, check, then, zeroF, pick}
 use Rattle.common.specs.Decimal.{scaled, decimal, tens, tenths}
 use Rattle.common.specs.Sum.{rawTotal, every}
 use Rattle.common.proofs.Laws.{mul-right, add-left, inside-check, step}
-use Rattle.common.proofs.Sums.{total-check, T-true}
 use Rattle.rules.specs.Power.{rawPower}
-use Rattle.rules.proofs.Powers.{power-check}
 use Rattle.error.specs.Fraction.{Fraction, ratio, signed, sumOver}
 use Rattle.error.proofs.Errors.{times}
 use Rattle.error.proofs.Bound.{Ex, con, var, sum, product, float, exact, Same}
 use Rattle.error.proofs.Powers.{power-ex, power-float, power-exact, sum-ex, sum-float, sum-same}
 use Rattle.boundary.specs.Boundary as f64
 use Rattle.boundary.specs.Boundary.{inP, formOf, term, rawTerm, formRule, straight3ef}
+use Rattle.boundary.proofs.Boundaries.{small, sum-check}
 use Rattle.distance.specs.Exact.{Row, Form, tabled, straight, form, valueOf, Polynomial, cd, ef, gh, ij, jk, mn, qu, rx, uv, Q, lifted, gain, loss, polynomial, line}
 use Rattle.distance.specs.Distance.{kind}
 
@@ -119,18 +118,10 @@ ex (tabled rows) = rows-ex rows
 ex straight = ef-ex
 
 -- ---- the same floats
-abbrev pub small : f64.Row → Bool
-small (f64.row i n) = leb (natAbs i) 64
-
-term-check : (x : Float) → finite x ≡ true → (r : f64.Row) → T (small r) → term x r ≡ check (rawTerm x r)
-term-check x fx (f64.row i n) t =
-    rw (power-check x i fx (T-true (leb (natAbs i) 64) t), inside-check)
-    (step (rawPower x i) (λ w. check (mul binary64 n w)) (λ w. mul binary64 n w) (λ _. refl) (mul-right n (rawPower x i)))
-
 rows-check : (p : Float) → finite p ≡ true → (rows : List Row) → T (every small (map rounded rows)) → formRule (inP (map rounded rows)) p ≡ check (float binary64 p (rows-ex rows))
 unfolding rows-ex formRule
 rows-check p f rows t =
-    total-check (term p) (rawTerm p) small (term-check p f) zeroF (map rounded rows) refl t
+    sum-check p f (map rounded rows) t
     ∙ ap check (sym (sum-float row-ex (rawTerm p) rounded p (row-float p) zero-ex rows ∙ start))
   where
     start : rawTotal (rawTerm p) (float binary64 p zero-ex) (map rounded rows) ≡ rawTotal (rawTerm p) zeroF (map rounded rows)

@@ -8,7 +8,8 @@ use native.Mathlib.Omega.{arith}
 use lib.ListN.{length, drop, length-append, List·getD-append}
 use lib.Seq.{getD-drop, drop-at}
 use Rattle.boundary.specs.Choice.{letterRule}
-use Rattle.rows.specs.Lines.{joined, halfAt, floatAt, pAt, tAt, lineOf, blockOf, rowsIn, lastLine, outputOf, turnsOf, Full}
+use Rattle.rows.specs.Lines.{pAt, tAt, lineOf, blockOf, rowsIn, lastLine, outputOf, turnsOf, Full}
+use Rattle.buffer.specs.Bytes.{joined, halfAt, floatAt}
 use Rattle.rows.proofs.Laws.{joined-same}
 
 joined-cut : {A : Type 0} (f : ℕ → List A) (m n : ℕ) → joined f (m + n) ≡ joined f m ++ joined (λ i. f (m + i)) n

@@ -11,7 +11,8 @@ use Rattle.rules.specs.Root.{rootRule, nearestRoot, wholeRoot}
 use Rattle.r4.specs.Saturation.{p-saturation}
 use Rattle.boundary.specs.Boundary.{formRule, straight3ef, table3cd, table3gh, table3ij, table3jk}
 use Rattle.boundary.specs.Choice.{letterRule, letterAt, limit, chijkRule}
-use Rattle.rows.specs.Lines.{bytesOf, joined, floatAt, digitsIn, decimal, lineOf, blockOf, lastLine, outputOf}
+use Rattle.rows.specs.Lines.{bytesOf, digitsIn, decimal, lineOf, blockOf, lastLine, outputOf}
+use Rattle.buffer.specs.Bytes.{joined, floatAt}
 
 -- (24,650), (24,655), (101,650)
 pub bytes : List ℕ

@@ -17,7 +17,8 @@ use borrow.Author.Tests.{lt-ltb, le-ltb}
 use Rattle.common.specs.Outcome.{Outcome, pick}
 use Rattle.letter.specs.declared.Letter.{Letter}
 use Rattle.boundary.specs.Choice.{letterRule}
-use Rattle.rows.specs.Lines.{joined, digitsIn, decimal, lineOf, linesOf, blockOf, pAt, tAt, pColumn, tColumn, Wrote}
+use Rattle.rows.specs.Lines.{digitsIn, decimal, lineOf, linesOf, blockOf, pAt, tAt, pColumn, tColumn, Wrote}
+use Rattle.buffer.specs.Bytes.{joined}
 
 -- ---- runs of stores
 
@@ -167,14 +168,3 @@ lines-of-bytes done s n p t hp ht =
     joined-same _ _ n
     (λ i l. ap (λ (x : Float). lineOf (done + i + 1) (letterRule x (getD (sets t 0 (tColumn s n)) i nan))) (column-at p (pAt s) n i nan hp l)
     ∙ ap (λ (x : Float). lineOf (done + i + 1) (letterRule (pAt s i) x)) (column-at t (tAt s) n i nan ht l))
-
--- ---- NaN patterns
-
-only-nan : (x : Float) → isNan x ≡ true → x ≡ nan
-unfolding isNan
-only-nan nan e = refl
-only-nan (inf s) e = let z : false ≡ true = e in cc
-only-nan (fin s m k) e = let z : false ≡ true = e in cc
-
-pub nan-read : (f : Format) (n : ℕ) → ltb (ones f * hid f) (n % top f) ≡ true → nan ≡ ofBits f n
-nan-read f n e = sym (only-nan (ofBits f n) (sym (nanBits-is f n) ∙ nanBits-above f n ∙ e))

@@ -8,33 +8,17 @@ use mathlib.Core.Path.{_≡_}
 use lib.Dec.{ltb}
 use lib.ListN.{length, getD}
 use lib.Seq.{sets}
-use lib.Ieee.{Float, nan, binary64, ofBits}
+use lib.Ieee.{Float, nan}
 use Rattle.common.specs.Outcome.{Outcome, value, refused, numberIn, pick}
 use Rattle.letter.specs.declared.Letter.{Letter}
 use Rattle.letter.specs.Letter.{asciiOf}
 use Rattle.boundary.specs.Choice.{letterRule}
-
--- the pieces of rows 0 to n - 1, joined
-unfoldable pub joined : {A : Type 0} → (ℕ → List A) → ℕ → List A
-joined f zero = []
-joined f (suc n) = joined f n ++ f n
+use Rattle.buffer.specs.Bytes.{joined, floatAt}
 
 -- the bytes xs stand in the buffer from `at` on, the next place is past them, and every other byte is as it was
 pub record Wrote (old : List ℕ) (at : ℕ) (xs : List ℕ) (new : List ℕ) (next : ℕ) : Type 0 where
   pub ends : next ≡ at + length xs
   pub holds : new ≡ sets old at xs
-
--- four bytes from an index on, the little end first, as a number
-abbrev pub halfAt : List ℕ → ℕ → ℕ
-halfAt s i = getD s i 0 + 256 * (getD s (i + 1) 0 + 256 * (getD s (i + 2) 0 + 256 * getD s (i + 3) 0))
-
--- eight bytes
-abbrev pub wordAt : List ℕ → ℕ → ℕ
-wordAt s i = halfAt s i + 2 ^ 32 * halfAt s (i + 4)
-
--- the float of eight bytes: `ofBits` gives `nan` for each NaN pattern
-unfoldable pub floatAt : List ℕ → ℕ → Float
-floatAt s i = ofBits binary64 (wordAt s i)
 
 -- p and T of row i, of 16 bytes
 abbrev pub pAt : List ℕ → ℕ → Float

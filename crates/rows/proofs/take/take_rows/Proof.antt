@@ -1,16 +1,23 @@
 -- `rows::take::take_rows` meets its contract. Assumes nothing.
 use mathlib.Core.Path.{_≡_, refl, ap, _∙_}
 use mathlib.Core.List.{List}
-use Prim.Native.Nat.{ℕ, _-_, _≤_}
+use Prim.Native.Nat.{ℕ, _+_, _*_, _-_, _≤_}
 use native.Mathlib.Omega.{arith}
 use native.Mathlib.Nat.{le-antisymm}
 use lib.ListN.{length, set, length-set}
 use lib.Seq.{sets}
 use lib.Ieee.{Float}
-use Rattle.rows.specs.Lines.{joined, pAt, tAt, pColumn, tColumn}
+use Rattle.rows.specs.Lines.{pAt, tAt, pColumn, tColumn}
+use borrow.Author.Needs.{needs}
+use borrow.Author.Tests.{le-leb}
+use Rattle.buffer.specs.Bytes.{joined, floatAt, floatIn}
 use Rattle.rows.proofs.Laws.{column-more}
 use Rattle.rows.proofs.take.take_rows.Statement.{statement}
 use Rattle.rows.proofs.take.take_rows.Tie as tie
+
+-- a float that lies in the bytes
+float-in : (s : List ℕ) (i : ℕ) → i + 8 ≤ length s → floatIn s i ≡ floatAt s i
+float-in s i h = rw (le-leb (i + 8) (length s) h)
 
 abbrev Inv-loop : tie.InvT-loop
 Inv-loop s n ps₀ ts₀ i₀ ps ts i =
@@ -27,7 +34,7 @@ mul-float-at : tie.Need-mul-float-at Inv-loop μ-loop
 mul-float-at c = omega arith
 
 float-at-requires : tie.Need-float-at-requires Inv-loop μ-loop
-float-at-requires c κs = omega arith
+float-at-requires c κs = search needs
 
 mul-ps : tie.Need-mul-ps Inv-loop μ-loop
 mul-ps c = omega arith
@@ -42,7 +49,7 @@ add-float-at : tie.Need-add-float-at Inv-loop μ-loop
 add-float-at c = omega arith
 
 float-at-requires-2 : tie.Need-float-at-requires-2 Inv-loop μ-loop
-float-at-requires-2 c κs = omega arith
+float-at-requires-2 c κs = search needs
 
 mul-ts : tie.Need-mul-ts Inv-loop μ-loop
 mul-ts c = omega arith
@@ -65,9 +72,9 @@ loop-again c =
       length-set (l .loop .ps) i (c .before .float-at .result) ∙ l .loop .inv .1,
       length-set (l .loop .ts) i (c .float-at2 .result) ∙ l .loop .inv .2,
       ap (λ (xs : List Float). set xs i (c .before .float-at .result)) (l .loop .inv .3)
-          ∙ column-more (a .ps .now) (pAt (a .s .now)) i (c .before .float-at .result) (c .before .float-at .ensures),
+          ∙ column-more (a .ps .now) (pAt (a .s .now)) i (c .before .float-at .result) (c .before .float-at .ensures ∙ float-in (a .s .now) (16 * i) (omega arith)),
       ap (λ (xs : List Float). set xs i (c .float-at2 .result)) (l .loop .inv .4)
-          ∙ column-more (a .ts .now) (tAt (a .s .now)) i (c .float-at2 .result) (c .float-at2 .ensures),
+          ∙ column-more (a .ts .now) (tAt (a .s .now)) i (c .float-at2 .result) (c .float-at2 .ensures ∙ float-in (a .s .now) (16 * i + 8) (omega arith)),
     )
 
 same-length : tie.Need-same-length Inv-loop μ-loop
