@@ -17,7 +17,7 @@ from pathlib import Path
 TOP = Path(__file__).resolve().parent.parent
 
 # The entries that `answers` has: a point of another is answered with 255.
-PORTED = (*range(1, 17), 20, 25)
+PORTED = (*range(1, 17), *range(20, 26), 30)
 
 # in the record's order, and by property_id.rs
 FIELDS = {"p": 3, "h": 4, "s": 5, "u": 6, "cv": 7, "cp": 8, "w": 9}

@@ -13,9 +13,10 @@ int memcmp(const void *, const void *, size);
 void *malloc(size);
 long atol(const char *);
 
+// the processor time of this process, so that other work on the machine counts as little as can be
 static double now(void) {
     struct timespec t;
-    clock_gettime(1, &t);
+    clock_gettime(2, &t);
     return t.seconds * 1e9 + t.nanoseconds;
 }
 

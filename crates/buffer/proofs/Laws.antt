@@ -1,16 +1,16 @@
 -- Runs of stores joined, pieces joined, the room of a number in bytes, and NaN patterns. Assumes nothing.
 use mathlib.Core.Path.{_≡_, refl, sym, ap, _∙_}
-use mathlib.Core.Bool.{Bool, true, false, not}
+use mathlib.Core.Bool.{true, false}
 use mathlib.Core.List.{List, [], _∷_, _++_, append-nil}
 use Prim.Native.Nat.{ℕ, zero, suc, _+_, _*_, _-_, _%_, _≤_}
 use native.Mathlib.Nat.{add-zero, add-suc, suc-add, mul-suc}
 use native.Mathlib.Numerals.{add-one}
 use native.Mathlib.Decide.{decLe}
 use native.Mathlib.Omega.{arith}
-use lib.Dec.{T, leb, ltb}
+use lib.Dec.{leb, ltb}
 use lib.ListN.{length, set, length-append, drop-of-length-le}
 use lib.Seq.{sets, sets-eq}
-use lib.Ieee.{Float, nan, inf, fin, Format, ofBits, isNan, eq, ones, hid, top}
+use lib.Ieee.{Float, nan, inf, fin, Format, ofBits, isNan, ones, hid, top}
 use lib.Ieee.Bits.{nanBits-is, nanBits-above}
 use borrow.Author.Tests.{le-leb, lt-leb}
 use Rattle.buffer.specs.Bytes.{joined, placed}

@@ -1,8 +1,7 @@
 -- A number that is not finite stays so through sums and products, so a rule that refuses at the first such step is often the rule with no
 -- check, checked once at the end. `next` and `step` are one checked step of such a proof. Assumes nothing.
-use mathlib.Core.Path.{_≡_, refl, sym, ap, subst}
+use mathlib.Core.Path.{_≡_, refl, sym, subst}
 use mathlib.Core.Bool.{Bool, true, false, cond, Bool·beq}
-use Prim.Native.Nat.{ℕ}
 use lib.Dec.{T, eqb}
 use lib.Ieee.{Float, nan, inf, fin, binary64, add, sub, neg, mul, div, unlike}
 use Rattle.common.specs.Outcome.{Outcome, value, refused, finite, check, then, inside, orNan}

@@ -1,6 +1,6 @@
 -- Each contract admits one answer. The theorems are about the contracts' own readings, `Reads.Post`, and not about a copy of them.
 -- Assumes nothing.
-use mathlib.Core.Path.{_≡_, sym, _∙_}
+use mathlib.Core.Path.{sym, _∙_}
 use Rattle.common.proofs.Same.{One, same-answer, same-verdict}
 use Rattle.common.proofs.constants.Kinds as constants-kinds
 use Rattle.common.proofs.constants.Reads as constants

@@ -1,6 +1,5 @@
 -- The ranges of document 01 and the constants of common/constant.rs, as printed. Assumes nothing: these are definitions.
 use mathlib.Core.List.{List, [], _∷_}
-use lib.IntN.{pos}
 use lib.Ieee.{Float}
 use Rattle.common.specs.Decimal.{decimal, whole, scaled, minus}
 use mathlib.Core.Bool.{false}

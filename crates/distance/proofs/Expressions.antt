@@ -6,7 +6,7 @@ use native.Mathlib.Nat.{mul-pos, one-le-pow, zero-lt-suc, add-zero, zero-add}
 use native.Mathlib.Omega.{arith}
 use mathlib.Core.Bool.{Bool, true, false, _&&_}
 use mathlib.Core.List.{List, map}
-use lib.IntN.{ℤ, pos, negsuc, natAbs}
+use lib.IntN.{ℤ, pos, negsuc}
 use lib.Dec.{T, leb, eqb, leb→le, eqb→eq}
 use lib.Pow.{pow-add, pow-pos}
 use lib.Ieee.{Float, binary64, add, sub, mul, neg}
@@ -15,14 +15,13 @@ use lib.Ieee.Positive.{positive}
 use Rattle.common.specs.Outcome.{Outcome, finite, check, then, zeroF, pick}
 use Rattle.common.specs.Decimal.{scaled, decimal, tens, tenths}
 use Rattle.common.specs.Sum.{rawTotal, every}
-use Rattle.common.proofs.Laws.{mul-right, add-left, inside-check, step}
-use Rattle.rules.specs.Power.{rawPower}
+use Rattle.common.proofs.Laws.{mul-right, add-left, step}
 use Rattle.error.specs.Fraction.{Fraction, ratio, signed, sumOver}
 use Rattle.error.proofs.Errors.{times}
 use Rattle.error.proofs.Bound.{Ex, con, var, sum, product, float, exact, Same}
 use Rattle.error.proofs.Powers.{power-ex, power-float, power-exact, sum-ex, sum-float, sum-same}
 use Rattle.boundary.specs.Boundary as f64
-use Rattle.boundary.specs.Boundary.{inP, formOf, term, rawTerm, formRule, straight3ef}
+use Rattle.boundary.specs.Boundary.{inP, formOf, rawTerm, formRule, straight3ef}
 use Rattle.boundary.proofs.Boundaries.{small, sum-check}
 use Rattle.distance.specs.Exact.{Row, Form, tabled, straight, form, valueOf, Polynomial, cd, ef, gh, ij, jk, mn, qu, rx, uv, Q, lifted, gain, loss, polynomial, line}
 use Rattle.distance.specs.Distance.{kind}

@@ -1,10 +1,8 @@
 -- The column run beside the record and the letter choice. Assumes nothing.
-use mathlib.Core.Path.{_≡_, refl, sym, ap, _∙_}
+use mathlib.Core.Path.{_≡_, sym, ap, _∙_}
 use mathlib.Core.Bool.{Bool, true, false}
-use Prim.Native.Nat.{ℕ}
-use native.Mathlib.Omega.{arith}
 use lib.Ieee.{Float}
-use Rattle.common.specs.Outcome.{Outcome, value, refused, then, pick, check}
+use Rattle.common.specs.Outcome.{Outcome, value, then, pick, check}
 use Rattle.common.specs.Decimal.{whole}
 use Rattle.common.specs.Constant.{DC-WATER, P-FROM, P-TO, T-FROM, T-TO}
 use Rattle.common.specs.Range.{pairRule}
@@ -24,16 +22,9 @@ use Rattle.helmholtz.specs.declared.Pressure.{Pressure}
 use Rattle.helmholtz.specs.declared.Pressure.the-variants.{Worked}
 use Rattle.region3.specs.Entries.{pTRule}
 use Rattle.region3.specs.Columns.{lineIn, rowRule, letterIn, densityIn, refusalIn}
+use Rattle.region3.proofs.Went.{went-on}
 
-no-value : {B : Type 0} (n : ℕ) (b : B) → _≡_ {A = Outcome B} (refused n) (value b) → ⊥
-no-value n b e = let z : _≡_ {A = ℕ} 0 1 = cc in omega arith
-
--- where a step goes on to a value, it gave one
-went-on : {A B : Type 0} (o : Outcome A) (f : A → Outcome B) (b : B) (C : Type 0) → then o f ≡ value b → ((a : A) → o ≡ value a → f a ≡ value b → C) → C
-went-on (value a) f b C e k = k a refl e
-went-on (refused n) f b C e k = absurd (no-value n b e)
-
--- a record's T, d and v are those of the state that it is worked from
+-- a record's d is that of the state from which it is worked
 record-d : (t d v : Float) (source : Pressure) (r : Record) → recordSteps t d v source ≡ value r → r .d ≡ d
 unfolding recordSteps recordAfter
 record-d t d v source r e =

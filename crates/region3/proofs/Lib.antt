@@ -1,4 +1,6 @@
 pub mod Rows
 pub mod States
+pub mod Went
 pub mod Agree
+pub mod Order
 pub mod Unique

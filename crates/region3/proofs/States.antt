@@ -6,7 +6,6 @@ use Rattle.common.specs.Answer.{paper}
 use Rattle.common.specs.declared.Answer.{Answer}
 use Rattle.state.specs.State.{densityOf}
 use Rattle.helmholtz.specs.Record.{recordSteps}
-use Rattle.helmholtz.specs.declared.Record.{Record}
 use Rattle.helmholtz.specs.declared.Pressure.{Pressure}
 use Rattle.region3.specs.Entries.{stateRecord}
 

@@ -32,13 +32,7 @@ pub fn row(p: MPa, t: Kelvin) -> Line
 }
 
 // Every row of columns of one length.
-fn fill_rows(
-    ps: &[f64],
-    ts: &[f64],
-    letters: &mut [u8],
-    densities: &mut [f64],
-    refusals: &mut [u8],
-)
+fn fill_rows(ps: &[f64], ts: &[f64], letters: &mut [u8], densities: &mut [f64], refusals: &mut [u8])
     requires { ⌜ (length (now ts) ≡ length (now ps)) × (length (now letters) ≡ length (now ps)) × (length (now densities) ≡ length (now ps)) × (length (now refusals) ≡ length (now ps)) ⌝ }
     ensures { λ _. ⌜ now (letters .exit) ≡ rowsBy letterIn (now (ps .entry)) (now (ts .entry)) ⌝ }
     ensures { λ _. ⌜ now (densities .exit) ≡ rowsBy densityIn (now (ps .entry)) (now (ts .entry)) ⌝ }
@@ -77,7 +71,13 @@ pub fn columns(
 ) -> Verdict
     ensures { λ r. ⌜ (verdict r, lent (now (letters .exit)) (now (densities .exit)) (now (refusals .exit))) ≡ columnsRule (now (ps .entry)) (now (ts .entry)) (lent (now (letters .entry)) (now (densities .entry)) (now (refusals .entry))) ⌝ }
 {
-    if same_length(ps.len(), ts.len(), letters.len(), densities.len(), refusals.len()) {
+    if same_length(
+        ps.len(),
+        ts.len(),
+        letters.len(),
+        densities.len(),
+        refusals.len(),
+    ) {
         fill_rows(ps, ts, letters, densities, refusals);
         return Verdict::Accepted;
     }

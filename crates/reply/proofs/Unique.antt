@@ -1,7 +1,6 @@
 -- Each contract admits one answer and one content of the lent page. The theorems are about the contracts' own readings, `Reads.Post`.
 -- Assumes nothing.
 use mathlib.Core.Path.{_≡_, sym, ap, _∙_}
-use mathlib.Core.List.{List}
 use Prim.Native.Nat.{ℕ}
 use lib.Seq.{sets}
 use denote.Ref.{now}

@@ -16,14 +16,15 @@ use Rattle.boundary.specs.Boundary.{boundaryRule}
 use Rattle.boundary.specs.Choice.{letterRule}
 use Rattle.letter.specs.declared.Letter.{Letter}
 use Rattle.letter.specs.declared.Letter.the-variants as letters
-use Rattle.volume.specs.declared.Phase.{Phase}
 use Rattle.volume.specs.declared.Phase.the-variants.{Liquid, Steam}
 use Rattle.volume.specs.Found.{pT2v-reg3Rule, pT2v-3subregRule, pT2v-sat-reg3Rule}
 use Rattle.backward.specs.Backward.{ph2T-reg3Rule, ph2v-reg3Rule, ps2T-reg3Rule, ps2v-reg3Rule, hs2p-reg3Rule}
 use Rattle.helmholtz.specs.Property.{propertyRule}
 use Rattle.helmholtz.specs.Record.{recordRule}
+use Rattle.region3.specs.Entries.{pTRule, phRule, psRule, hsRule}
+use Rattle.region3.specs.Columns.{rowRule}
 use Rattle.reply.specs.declared.Reply.{Reply}
-use Rattle.reply.specs.Shape.{oneOf, letterOf, recordOf, unknown, placeOf, named}
+use Rattle.reply.specs.Shape.{oneOf, letterOf, recordOf, lineOf, unknown, placeOf, named}
 
 -- 1 to 4: the four written rules
 unfoldable pub rulesReply : ℕ → ℤ → Float → Reply
@@ -86,14 +87,22 @@ backwardReply entry a b =
 unfoldable pub statesReply : ℕ → ℤ → Float → Float → Reply
 statesReply entry n a b =
     pick (eqb entry 20) (recordOf (recordRule a b))
-    (pick (eqb entry 25) (oneOf (propertyRule n a b)) unknown)
+    (pick (eqb entry 21) (recordOf (pTRule a b))
+    (pick (eqb entry 22) (recordOf (phRule a b))
+    (pick (eqb entry 23) (recordOf (psRule a b))
+    (pick (eqb entry 24) (recordOf (hsRule a b))
+    (pick (eqb entry 25) (oneOf (propertyRule n a b)) unknown)))))
+
+-- 30: one row of the column run
+unfoldable pub columnReply : ℕ → Float → Float → Reply
+columnReply entry a b = pick (eqb entry 30) (lineOf (rowRule a b)) unknown
 
 -- entry, number, first and second argument; a group of entries ends with its highest number
 unfoldable pub replyRule : ℕ → ℤ → Float → Float → Reply
-unfolding rulesReply linesReply volumesReply backwardReply statesReply
+unfolding rulesReply linesReply volumesReply backwardReply statesReply columnReply
 replyRule entry n a b =
     pick (leb entry 4) (rulesReply entry n a)
     (pick (leb entry 8) (linesReply entry n a b)
     (pick (leb entry 11) (volumesReply entry n a b)
     (pick (leb entry 16) (backwardReply entry a b)
-    (pick (leb entry 25) (statesReply entry n a b) unknown))))
+    (pick (leb entry 25) (statesReply entry n a b) (columnReply entry a b)))))

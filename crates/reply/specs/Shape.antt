@@ -10,6 +10,7 @@ use Rattle.letter.specs.declared.Letter.{Letter}
 use Rattle.letter.specs.Letter.{byteIn}
 use Rattle.helmholtz.specs.declared.Record.{Record}
 use Rattle.helmholtz.specs.Record.{report}
+use Rattle.region3.specs.declared.Line.{Line}
 use Rattle.reply.specs.declared.Reply.{Reply}
 
 -- a call that is refused: no letter, and +0.0 in every place
@@ -34,6 +35,10 @@ reported a = record { refusal = numberIn (a .0); letter = 0; numbers = numbersOf
 
 abbrev pub recordOf : Outcome Record → Reply
 recordOf o = reported (report o)
+
+-- a row of the column run: its letter, and the density in the first place
+abbrev pub lineOf : Line → Reply
+lineOf l = record { refusal = l .refusal; letter = l .letter; numbers = l .density ∷ replicate 9 zeroF }
 
 -- no such entry, boundary, letter or phase
 abbrev pub unknown : Reply

@@ -2,6 +2,7 @@
 use crate::Reply;
 use crate::shape::UNKNOWN;
 use crate::shape::choice;
+use crate::shape::line;
 use crate::shape::one;
 use crate::shape::place;
 use crate::shape::refused;
@@ -20,7 +21,7 @@ use volume::pT2v_3subreg;
 use volume::pT2v_reg3;
 use volume::pT2v_sat_reg3;
 ghost use mathlib.Core.Path.{_≡_};
-ghost use Rattle.reply.specs.Entries.{rulesReply, boundaryReply, linesReply, letterReply, phaseReply, volumesReply, backwardReply, statesReply};
+ghost use Rattle.reply.specs.Entries.{rulesReply, boundaryReply, linesReply, letterReply, phaseReply, volumesReply, backwardReply, statesReply, columnReply};
 
 // 1 to 4: the four written rules.
 pub fn by_rules(entry: u8, n: i32, a: f64) -> Reply
@@ -163,7 +164,21 @@ pub fn by_states(entry: u8, n: i32, a: f64, b: f64) -> Reply
 {
     match entry {
         20 => whole(helmholtz::Td_reg3(Kelvin(a), KgPerM3(b))),
+        21 => whole(region3::pT_reg3(MPa(a), Kelvin(b))),
+        22 => whole(region3::ph_reg3(MPa(a), KJPerKg(b))),
+        23 => whole(region3::ps_reg3(MPa(a), KJPerKgK(b))),
+        24 => whole(region3::hs_reg3(KJPerKg(a), KJPerKgK(b))),
         25 => one(helmholtz::Td_thermal_reg3(Kelvin(a), KgPerM3(b), n)),
         _ => refused(UNKNOWN),
     }
+}
+
+// 30: one row of the column run.
+pub fn by_column(entry: u8, a: f64, b: f64) -> Reply
+    ensures { λ r. ⌜ r ≡ columnReply entry a b ⌝ }
+{
+    if entry == 30 {
+        return line(region3::row(MPa(a), Kelvin(b)));
+    }
+    refused(UNKNOWN)
 }

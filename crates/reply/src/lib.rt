@@ -5,13 +5,12 @@ mod shape;
 mod stored;
 
 use entries::by_backward;
+use entries::by_column;
 use entries::by_lines;
 use entries::by_rules;
 use entries::by_states;
 use entries::by_volumes;
 pub use page::answer_rows;
-use shape::UNKNOWN;
-use shape::refused;
 pub use stored::agrees;
 ghost use mathlib.Core.Path.{_≡_};
 ghost use Rattle.reply.specs.Entries.{replyRule};
@@ -42,5 +41,5 @@ pub fn answer(entry: u8, n: i32, a: f64, b: f64) -> Reply
     if entry <= 25 {
         return by_states(entry, n, a, b);
     }
-    refused(UNKNOWN)
+    by_column(entry, a, b)
 }

@@ -1,4 +1,4 @@
-// The shapes of a reply: a refusal, one number, a letter, a record.
+// The shapes of a reply: a refusal, one number, a letter, a record, a row of the column run.
 use crate::Reply;
 use common::Answer;
 use common::Verdict;
@@ -7,12 +7,13 @@ use helmholtz::RecordAnswer;
 use letter::Choice;
 use letter::letter_byte;
 use letter::refusal_byte;
+use region3::Line;
 ghost use mathlib.Core.Path.{_≡_};
 ghost use Rattle.common.specs.Outcome.{numberIn};
 ghost use Rattle.common.specs.Answer.{paper, verdict};
 ghost use Rattle.letter.specs.Letter.{chosen};
 ghost use Rattle.helmholtz.specs.Record.{paperRecord};
-ghost use Rattle.reply.specs.Shape.{refusedBy, oneOf, letterOf, reported, placeOf};
+ghost use Rattle.reply.specs.Shape.{refusedBy, oneOf, letterOf, reported, lineOf, placeOf};
 
 // The refusal of an entry, a boundary, a letter or a phase that does not exist.
 pub const UNKNOWN: u8 = 255;
@@ -69,6 +70,16 @@ pub fn whole(a: RecordAnswer) -> Reply
         refusal: verdict_byte(v),
         letter: 0,
         numbers: [x.T, x.d, x.v, x.p, x.h, x.s, x.u, x.cv, x.cp, x.w],
+    }
+}
+
+pub fn line(l: Line) -> Reply
+    ensures { λ r. ⌜ r ≡ lineOf l ⌝ }
+{
+    Reply {
+        refusal: l.refusal,
+        letter: l.letter,
+        numbers: [l.density, 0.0, 0.0, 0.0, 0.0, 0.0, 0.0, 0.0, 0.0, 0.0],
     }
 }
 

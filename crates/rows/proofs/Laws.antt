@@ -1,9 +1,8 @@
 -- Runs of stores joined, columns and lines row by row, decimal numbers, NaN patterns. Assumes nothing.
 use mathlib.Core.Path.{_≡_, refl, sym, ap, _∙_, subst}
-use mathlib.Core.Bool.{true, false}
 use mathlib.Core.List.{List, [], _∷_, _++_}
 use mathlib.Core.Logic.{_⊎_, inl, inr}
-use Prim.Native.Nat.{ℕ, zero, suc, _+_, _*_, _/_, _%_, _^_, _<_, _≤_}
+use Prim.Native.Nat.{ℕ, zero, suc, _+_, _/_, _%_, _^_, _<_, _≤_}
 use native.Mathlib.Nat.{add-zero, add-suc, suc-add, zero-add, pow-succ', not-suc-le-zero, le-of-suc-le-suc, eq-or-lt-of-le, ne-of-lt}
 use native.Mathlib.Numerals.{add-one}
 use native.Mathlib.Decide.{decLt}
@@ -11,8 +10,7 @@ use native.Mathlib.Omega.{arith}
 use lib.Dec.{ltb}
 use lib.ListN.{length, getD, set, take, length-append}
 use lib.Seq.{sets, lt-length-sets, getD-set-same, getD-set-other, take-suc, length-take-le}
-use lib.Ieee.{Float, nan, inf, fin, Format, ofBits, isNan, ones, hid, top}
-use lib.Ieee.Bits.{nanBits-is, nanBits-above}
+use lib.Ieee.{Float, nan}
 use borrow.Author.Tests.{lt-ltb, le-ltb}
 use Rattle.common.specs.Outcome.{Outcome, pick}
 use Rattle.letter.specs.declared.Letter.{Letter}

@@ -1,20 +1,20 @@
 -- The logarithm's rule at a number's 53 digits, and that its checks come to one at the end. Assumes nothing.
 use mathlib.Core.Path.{_≡_, refl, sym, ap, _∙_, subst}
 use mathlib.Core.List.{List, [], _∷_}
-use Prim.Native.Nat.{ℕ, zero, suc, _+_, _-_, _*_, _/_, _^_, _≤_, _<_}
-use native.Mathlib.Nat.{le-trans, le-of-eq, le-of-lt, lt-of-lt-of-le, mul-one, one-mul, mul-pos, mul-assoc, mul-right-comm, mul-le-mul-right, mul-lt-mul-of-pos-right, le-of-mul-le-mul-right, lt-of-mul-lt-mul-right, pow-succ'}
+use Prim.Native.Nat.{ℕ, suc, _+_, _-_, _*_, _^_, _≤_, _<_}
+use native.Mathlib.Nat.{le-trans, le-of-eq, le-of-lt, lt-of-lt-of-le, mul-pos, mul-assoc, mul-right-comm, mul-le-mul-right, mul-lt-mul-of-pos-right, le-of-mul-le-mul-right, lt-of-mul-lt-mul-right, pow-succ'}
 use native.Mathlib.Omega.{arith}
-use mathlib.Core.Bool.{Bool, true, false, not, cond}
-use lib.Dec.{T, ltb, lt→ltb, ltb→lt, not-T}
-use lib.IntN.{ℤ, pos, negsuc}
+use mathlib.Core.Bool.{Bool, true, false, cond}
+use lib.Dec.{T, ltb, lt→ltb, ltb→lt}
+use lib.IntN.{ℤ}
 use lib.Pow.{pow-pos, pow-add, pow-mono}
-use lib.Ieee.{Float, nan, inf, fin, binary64, fits, up, down, minus, size, round, add, sub, mul, div, sum, ofInt, ofBits}
-use lib.Ieee.Bits.{ofBits-fits, is-true, is-false}
+use lib.Ieee.{Float, nan, inf, fin, binary64, up, down, minus, size, round, add, sub, mul, div, sum, ofInt, ofBits}
+use lib.Ieee.Bits.{ofBits-fits, is-true}
 use lib.Ieee.Fits.{round-fits, down-pos}
 use lib.Ieee.Exact.{HasValue, round-exact}
-use Rattle.common.specs.Outcome.{Outcome, value, refused, finite, check, then}
+use Rattle.common.specs.Outcome.{refused, finite, check}
 use Rattle.rules.specs.Units.{inUnits, positive}
-use Rattle.rules.specs.Log.{number, L, inverse, series, odds, lnSteps, places, lnOf, logarithmRule, rawSeries, rawTail, rawLn}
+use Rattle.rules.specs.Log.{number, L, inverse, series, odds, lnSteps, places, lnOf, logarithmRule, rawSeries, rawLn}
 use Rattle.common.proofs.Laws.{Lost, mul-left, mul-right, add-left, add-right, div-left, check-lost, check-kept, next}
 use Rattle.rules.proofs.Fields.{PartsOf, same, read-suc}
 use Rattle.rules.proofs.Whole.{size-is}

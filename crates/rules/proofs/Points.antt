@@ -1,7 +1,7 @@
 -- Points of the written rules, worked out by antt from the definitions: one table, one statement. Assumes nothing.
 use mathlib.Core.Path.{_≡_, refl}
 use mathlib.Core.List.{List, [], _∷_, map}
-use mathlib.Core.Bool.{Bool, true, false}
+use mathlib.Core.Bool.{false}
 use Prim.Native.Nat.{ℕ}
 use lib.IntN.{ℤ, pos, negsuc}
 use lib.Ieee.{Float, nan, inf, fin, binary64, round, neg, add, sub, sum, mul, div, ofInt, le, lt, eq}

@@ -7,7 +7,7 @@ use lib.Dec.{T, leb, ltb}
 use lib.IntN.{ℤ, pos, natAbs}
 use lib.Ieee.{Float, nan, inf, fin, binary64, fits, le, neg, div, round, ofInt, ofBits, minus}
 use borrow.Author.Tests.{ltb-true, ltb-false}
-use Rattle.common.specs.Outcome.{Outcome, value, refused, finite, check, inside, orNan}
+use Rattle.common.specs.Outcome.{finite, check, inside, orNan}
 use Rattle.common.proofs.Laws.{check-kept, raw-inside, inside-check}
 use Rattle.rules.specs.Power.{powerRule, rawPower}
 use Rattle.rules.specs.Units.{inUnits}
@@ -17,7 +17,7 @@ use Rattle.rules.specs.Exp.{exponentialRule, expSteps, rawExp, nearestWh
 use Rattle.rules.proofs.Fields.{PartsOf}
 use Rattle.rules.proofs.Powers.{power-check}
 use Rattle.rules.proofs.Meaning.{root-held, parts-of}
-use Rattle.rules.proofs.Logs.{ln-low, ln-high, ln-of}
+use Rattle.rules.proofs.Logs.{ln-low, ln-high}
 use Rattle.rules.proofs.Exps.{tame-quotient, tame-finite, exp-check}
 
 -- at a finite a and an n from -64 to 64

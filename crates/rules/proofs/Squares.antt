@@ -1,13 +1,13 @@
 -- Refusing at a non-finite a*a too is the same rule: a*a is only formed while a higher bit remains, and then r takes it up. Assumes nothing.
-use mathlib.Core.Path.{_≡_, refl, sym, ap, _∙_}
+use mathlib.Core.Path.{_≡_, refl, sym, _∙_}
 use mathlib.Core.Bool.{Bool, true, false}
-use Prim.Native.Nat.{ℕ, zero, suc, _*_, _/_, _%_, _^_, _<_, _≤_}
+use Prim.Native.Nat.{ℕ, zero, suc, _*_, _/_, _%_, _^_, _<_}
 use native.Mathlib.Nat.{pow-suc, pos-of-ne-zero}
 use native.Mathlib.Omega.{arith}
 use lib.Dec.{eqb}
 use lib.Ieee.{Float, binary64, mul}
-use borrow.Author.Tests.{eqb-true, eqb-false, eq-eqb, ne-eqb}
-use Rattle.common.specs.Outcome.{Outcome, refused, check, then, finite}
+use borrow.Author.Tests.{eqb-true, eqb-false, eq-eqb}
+use Rattle.common.specs.Outcome.{Outcome, check, then}
 use Rattle.rules.specs.Power.{times, odd, rungs, rungsC}
 use Rattle.common.proofs.Laws.{Lost, next, check-lost, mul-left, mul-right}
 use Rattle.rules.proofs.Powers.{rungs-check, rungs-lost, times-lost}

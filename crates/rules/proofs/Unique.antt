@@ -1,5 +1,5 @@
 -- Each contract admits one answer. The theorems are about the contracts' own readings, `Reads.Post`. Assumes nothing.
-use mathlib.Core.Path.{_≡_, sym, _∙_}
+use mathlib.Core.Path.{sym, _∙_}
 use Rattle.common.proofs.Same.{One, same-answer}
 use Rattle.rules.proofs.powi.magnitude.Kinds as magnitude-kinds
 use Rattle.rules.proofs.powi.magnitude.Reads as magnitude

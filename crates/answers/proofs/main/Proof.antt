@@ -1,6 +1,5 @@
 -- `answers::main` is safe and ends. The measure is the pages that are left; the buffers keep their lengths. Assumes nothing.
 use mathlib.Core.Path.{_≡_}
-use native.Mathlib.Omega.{arith}
 use lib.ListN.{length}
 use borrow.Author.Needs.{needs}
 use Rattle.answers.proofs.main.Statement.{statement}

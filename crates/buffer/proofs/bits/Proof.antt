@@ -1,6 +1,6 @@
 -- `buffer::bits` meets its contract: only a NaN differs from itself. Assumes nothing.
 use mathlib.Core.Path.{_≡_, sym, ap, subst, _∙_}
-use mathlib.Core.Bool.{Bool, true, false, not}
+use mathlib.Core.Bool.{false, not}
 use lib.Dec.{T}
 use lib.Ieee.{Float, nan, inf, fin, binary64, isNan, ne, toBits}
 use lib.Ieee.Compare.{differs-from-itself, nan-differs}

@@ -1,6 +1,5 @@
 -- `buffer::byte_at` meets its contract. Assumes nothing.
 use mathlib.Core.Path.{sym}
-use native.Mathlib.Omega.{arith}
 use lib.ListN.{List·getD-eq-default}
 use borrow.Author.Needs.{needs}
 use Rattle.buffer.proofs.byte_at.Statement.{statement}

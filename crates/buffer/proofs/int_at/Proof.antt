@@ -1,7 +1,7 @@
 -- `buffer::int_at` meets its contract. Assumes nothing.
 use mathlib.Core.Path.{_≡_, ap, _∙_}
 use mathlib.Core.Bool.{true, false}
-use Prim.Native.Nat.{_+_, _≤_}
+use Prim.Native.Nat.{_+_}
 use lib.Dec.{leb}
 use lib.ListN.{length}
 use mir.Syntax.{w32}

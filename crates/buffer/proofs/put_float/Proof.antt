@@ -1,6 +1,5 @@
 -- `buffer::put_float` meets its contract. Assumes nothing.
 use mathlib.Core.Path.{ap, _∙_}
-use mathlib.Core.List.{List}
 use Prim.Native.Nat.{ℕ}
 use Rattle.buffer.specs.Bytes.{placed, eight}
 use borrow.Author.Needs.{needs}

@@ -1,15 +1,13 @@
 -- `buffer::with_sign` meets its contract. Assumes nothing.
-use mathlib.Core.Path.{_≡_, refl, sym, _∙_}
-use mathlib.Core.Bool.{Bool, true, false}
+use mathlib.Core.Path.{_≡_}
 use Prim.Native.Nat.{ℕ, suc, _-_, _^_, _<_, _≤_}
 use native.Mathlib.Omega.{arith}
-use lib.IntN.{ℤ, pos, negsuc, _-ℤ_}
+use lib.IntN.{pos, negsuc, _-ℤ_}
 use mir.Syntax.{w32, w64}
-use mir.Val.{SFits, toZ, ofZ, sel}
-use mir.ValLaws.{toZ-pos, toZ-ofZ}
+use mir.Val.{SFits, toZ}
+use mir.ValLaws.{toZ-ofZ}
 use borrow.Author.Needs.{needs}
 use borrow.Author.Tests.{lt-ltb, le-ltb}
-use Rattle.common.specs.Outcome.{pick}
 use Rattle.buffer.specs.Bytes.{signed}
 use Rattle.buffer.proofs.with_sign.Statement.{statement}
 use Rattle.buffer.proofs.with_sign.Tie as tie

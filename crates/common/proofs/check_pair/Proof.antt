@@ -1,6 +1,6 @@
 -- `common::check_pair` meets its contract: each return rewrites the rule with the tests that led there. Assumes nothing.
 use mathlib.Core.Path.{_≡_}
-use mathlib.Core.Bool.{Bool, true, false}
+use mathlib.Core.Bool.{true, false}
 use borrow.Author.Needs.{needs}
 use Rattle.common.specs.Outcome.{finite}
 use Rattle.common.specs.Range.{within}

@@ -1,5 +1,5 @@
 -- `common::settle` meets its contract. Assumes nothing.
-use mathlib.Core.Path.{sym, _∙_}
+use mathlib.Core.Path.{sym}
 use borrow.Author.Needs.{needs}
 use Rattle.common.proofs.Laws.{check-kept, check-lost}
 use Rattle.common.proofs.settle.Statement.{statement}

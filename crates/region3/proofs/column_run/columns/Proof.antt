@@ -1,9 +1,7 @@
 -- `region3::column_run::columns` meets its contract. Assumes nothing.
-use mathlib.Core.Path.{_≡_, sym, _∙_}
-use mathlib.Core.Bool.{true, false}
-use lib.ListN.{length}
+use mathlib.Core.Path.{sym, _∙_}
 use borrow.Author.Needs.{needs}
-use Rattle.region3.specs.Columns.{same, columnsRule}
+use Rattle.region3.specs.Columns.{columnsRule}
 use Rattle.region3.proofs.Rows.{same-all}
 use Rattle.region3.proofs.column_run.columns.Statement.{statement}
 use Rattle.region3.proofs.column_run.columns.Tie as tie

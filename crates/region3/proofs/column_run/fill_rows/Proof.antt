@@ -1,5 +1,5 @@
 -- `region3::column_run::fill_rows` meets its contract: after i turns the first i rows of each column are written. Assumes nothing.
-use mathlib.Core.Path.{ap, _∙_}
+use mathlib.Core.Path.{ap}
 use Prim.Native.Nat.{_≤_, _<_, _-_}
 use native.Mathlib.Omega.{arith}
 use lib.ListN.{length}
@@ -48,8 +48,10 @@ returns c =
     let a = s .args in
     let i = l .loop .i in (
       filled-all letterIn 0 (a .ps .now) (a .ts .now) i (l .loop .letters) (s .pre .0) (c .loop-test .left) (l .loop .inv .1),
-      (filled-all densityIn nan (a .ps .now) (a .ts .now) i (l .loop .densities) (s .pre .0) (c .loop-test .left) (l .loop .inv .2),
-      filled-all refusalIn 0 (a .ps .now) (a .ts .now) i (l .loop .refusals) (s .pre .0) (c .loop-test .left) (l .loop .inv .3)),
+      (
+        filled-all densityIn nan (a .ps .now) (a .ts .now) i (l .loop .densities) (s .pre .0) (c .loop-test .left) (l .loop .inv .2),
+        filled-all refusalIn 0 (a .ps .now) (a .ts .now) i (l .loop .refusals) (s .pre .0) (c .loop-test .left) (l .loop .inv .3),
+      ),
     )
 
 pub fill-rows-spec : {M : Type 1} → statement M

@@ -1,5 +1,5 @@
 -- `region3::region3::record_of` meets its contract. Assumes nothing.
-use mathlib.Core.Path.{_≡_, sym, ap, _∙_}
+use mathlib.Core.Path.{_≡_, ap, _∙_}
 use Rattle.common.specs.Outcome.{then}
 use borrow.Author.Needs.{needs}
 use Rattle.common.specs.Answer.{paper}

@@ -19,7 +19,7 @@ use ghost.Atoms.{Atoms, sem}
 use contract.Lifetimes.{Lfts}
 use contract.Monad.{Fun, fact}
 use contract.Running.{givenOf, tables, tablesOf}
-use types.Kit.{Given, ‵, raw, _⊛_, given, ⋆, some, later, _$_, _∵_, !, qed, by, move, keep, use1, use2, split, join, learn, pick, fsplit, fjoin, feqL, suffices, frame, await, done}
+use types.Kit.{Given, Item, ‵, raw, _⊛_, given, ⋆, some, later, _$_, _∵_, !, qed, by, move, keep, use1, use2, split, join, learn, pick, fsplit, fjoin, feqL, suffices, frame, await, done}
 use types.Part.{agg, whole, sub, look-in}
 use types.Run.{look, init, forget, stop, hop, fld, from, load, addr, of-opd, and-then, no-more, assigns, land, returns, enter, alloc1, alloc0, params1, pass1, pass0, free1, free0}
 use sound.WpLaws.{FmC, fmOf, WpFn-mono}
@@ -100,6 +100,9 @@ module _ {M : Type 1} (𝓤 : URA M) (H : Heap 𝓤) (A : Atoms 𝓤) (W : Given
   abbrev qs : Shares
   qs = (q₀, (q₁, (q₂, (q₃, (q₄, tt)))))
 
+  abbrev tokens : Item 𝓤
+  tokens = ‵ (flft κ₀ q₀) ⊛ ‵ (flft κ₁ q₁) ⊛ ‵ (flft κ₂ q₂) ⊛ ‵ (flft κ₃ q₃) ⊛ ‵ (flft κ₄ q₄) ⊛ ‵ ftrue
+
   -- the machine values
   abbrev p : Val
   p = P′.lowered d
@@ -150,13 +153,13 @@ module _ {M : Type 1} (𝓤 : URA M) (H : Heap 𝓤) (A : Atoms 𝓤) (W : Given
 
   asked : ent 𝓤 (onEntry 𝓤 H A columns.signature κs qs given-on passed) (Columns 𝓤 H A mem run .pre to)
   asked =
-      qed W ((‵ (flft κ₀ q₀) ⊛ ‵ (flft κ₁ q₁) ⊛ ‵ (flft κ₂ q₂) ⊛ ‵ (flft κ₃ q₃) ⊛ ‵ (flft κ₄ q₄) ⊛ ‵ ftrue) ∷ ‵ (owns (ShrSlice (named 0) κ₀ f64 ∷ ShrSlice (named 1) κ₁ f64 ∷ MutSlice (named 2) κ₂ u8 ∷ MutSlice (named 3) κ₃ f64 ∷ MutSlice (named 4) κ₄ u8 ∷ []) given-on passed) ∷ []) ∵
+      qed W (tokens ∷ ‵ (owns (ShrSlice (named 0) κ₀ f64 ∷ ShrSlice (named 1) κ₁ f64 ∷ MutSlice (named 2) κ₂ u8 ∷ MutSlice (named 3) κ₃ f64 ∷ MutSlice (named 4) κ₄ u8 ∷ []) given-on passed) ∷ []) ∵
       join ! $ frame ! $ done !
 
   -- what the structs and the columns own gives what the callee asks, and the structs are kept
   apart : ent 𝓤 (onEntry 𝓤 H A columns-of.signature κs qs args vals) (sep 𝓤 (Columns 𝓤 H A mem run .pre to) (sep 𝓤 (sem 𝓤 H A OwnP) (sem 𝓤 H A OwnT)))
   apart =
-      qed W ((‵ (flft κ₀ q₀) ⊛ ‵ (flft κ₁ q₁) ⊛ ‵ (flft κ₂ q₂) ⊛ ‵ (flft κ₃ q₃) ⊛ ‵ (flft κ₄ q₄) ⊛ ‵ ftrue) ∷ ‵ (owns (BP κs ∷ BT κs ∷ MutSlice (named 2) κ₂ u8 ∷ MutSlice (named 3) κ₃ f64 ∷ MutSlice (named 4) κ₄ u8 ∷ []) args vals) ∷ []) ∵
+      qed W (tokens ∷ ‵ (owns (BP κs ∷ BT κs ∷ MutSlice (named 2) κ₂ u8 ∷ MutSlice (named 3) κ₃ f64 ∷ MutSlice (named 4) κ₄ u8 ∷ []) args vals) ∷ []) ∵
       move ! (1 ∷ []) $ fsplit ! $ use1 W (‵ OwnP ⊛ ‵ OwnP) (LL.copy (DP κs) (P′.the-copy (namedLft 5 0 tt κs)) 𝓤 H A W .twice d (p ∷ [])) $ split ! $
       use1 W (given (p ∷ [] ≡ p ∷ []) (‵ (all-own (DP κs .parts) (LP κs) (d .0, tt)))) (own-open 𝓤 H A W (DP κs) (LP κs) (d .0, tt) p) $ learn ! (λ _. fsplit ! $
       -- [what the slice of p owns; true; what p owns; what the others own; the tokens]
@@ -171,9 +174,9 @@ module _ {M : Type 1} (𝓤 : URA M) (H : Heap 𝓤) (A : Atoms 𝓤) (W : Given
   Said r xs ys zs = (verdict r, lent xs ys zs) ≡ columnsRule (d .0 .now) (e .0 .now) (lent (x .now) (y .now) (z .now))
 
   exits : (r : Verdict) (u : Val) (xs : List ℕ) (ys : List Float) (zs : List ℕ) → Said r xs ys zs → length xs ≡ length (x .now) → length ys ≡ length (y .now) → length zs ≡ length (z .now)
-      → ent 𝓤 (⋆ 𝓤 H A (‵ (S.the-row .own r (u ∷ [])) ∷ (‵ (flft κ₀ q₀) ⊛ ‵ (flft κ₁ q₁) ⊛ ‵ (flft κ₂ q₂) ⊛ ‵ (flft κ₃ q₃) ⊛ ‵ (flft κ₄ q₄) ⊛ ‵ ftrue) ∷ ‵ OwnP ∷ ‵ OwnT ∷ ‵ (finally u8 (x .name) xs) ∷ ‵ (finally f64 (y .name) ys) ∷ ‵ (finally u8 (z .name) zs) ∷ [])) (Post u)
+      → ent 𝓤 (⋆ 𝓤 H A (‵ (S.the-row .own r (u ∷ [])) ∷ tokens ∷ ‵ OwnP ∷ ‵ OwnT ∷ ‵ (finally u8 (x .name) xs) ∷ ‵ (finally f64 (y .name) ys) ∷ ‵ (finally u8 (z .name) zs) ∷ [])) (Post u)
   exits r u xs ys zs f a b c =
-      qed W (‵ (S.the-row .own r (u ∷ [])) ∷ (‵ (flft κ₀ q₀) ⊛ ‵ (flft κ₁ q₁) ⊛ ‵ (flft κ₂ q₂) ⊛ ‵ (flft κ₃ q₃) ⊛ ‵ (flft κ₄ q₄) ⊛ ‵ ftrue) ∷ ‵ OwnP ∷ ‵ OwnT ∷ ‵ (finally u8 (x .name) xs) ∷ ‵ (finally f64 (y .name) ys) ∷ ‵ (finally u8 (z .name) zs) ∷ []) ∵
+      qed W (‵ (S.the-row .own r (u ∷ [])) ∷ tokens ∷ ‵ OwnP ∷ ‵ OwnT ∷ ‵ (finally u8 (x .name) xs) ∷ ‵ (finally f64 (y .name) ys) ∷ ‵ (finally u8 (z .name) zs) ∷ []) ∵
       suffices ! _ (ends-at 𝓤 H A columns-of.ended stayed (columns-of.clauses 𝓤 H A mem run) W ((κs, qs, tt, args, vals), tt) u r (tt, (tt, (xs, (ys, (zs, tt))))) (tt, (tt, (a, (b, (c, tt)))))) $ says ! f $
       move ! (1 ∷ []) $ frame ! $ nothing ! $ move ! (6 ∷ 0 ∷ []) $ fjoin ! $ move ! (5 ∷ 0 ∷ []) $ fjoin ! $ move ! (4 ∷ 0 ∷ []) $ fjoin ! $ move ! (3 ∷ 0 ∷ []) $ fjoin ! $ move ! (2 ∷ 0 ∷ []) $ fjoin ! $ frame ! $ done !
 
@@ -195,7 +198,7 @@ module _ {M : Type 1} (𝓤 : URA M) (H : Heap 𝓤) (A : Atoms 𝓤) (W : Given
         move ! (28 ∷ []) $ use1 W (raw (Columns 𝓤 H A mem run .pre to) ⊛ (‵ OwnP ⊛ ‵ OwnT)) apart $ split ! $ move ! (1 ∷ []) $ split ! $ move ! (2 ∷ []) $
         -- [what the callee asks; what p owns; what t owns; the locals]
         calls-at ! fm (Columns 𝓤 H A mem run) known to (and-then ! (load ! (from ! (stop !)) (look ! 17 refl)) (and-then ! (load ! (from ! (stop !)) (look ! 15 refl)) (and-then ! (load ! (from ! (stop !)) (look ! 11 refl)) (and-then ! (load ! (from ! (stop !)) (look ! 7 refl)) (and-then ! (load ! (from ! (stop !)) (look ! 3 refl)) (no-more !)))))) (λ u.
-        use1 W (later (some (λ (r : Verdict). ((‵ (flft κ₀ q₀) ⊛ ‵ (flft κ₁ q₁) ⊛ ‵ (flft κ₂ q₂) ⊛ ‵ (flft κ₃ q₃) ⊛ ‵ (flft κ₄ q₄) ⊛ ‵ ftrue) ⊛ ‵ (S.the-row .own r (u ∷ []))) ⊛ raw (ensured 𝓤 H A columns.ended (columns.clauses 𝓤 H A mem run) κs given-on tt r)))) (id⊢ 𝓤 _) $ await ! tt $ pick ! (λ r.
+        use1 W (later (some (λ (r : Verdict). (tokens ⊛ ‵ (S.the-row .own r (u ∷ []))) ⊛ raw (ensured 𝓤 H A columns.ended (columns.clauses 𝓤 H A mem run) κs given-on tt r)))) (id⊢ 𝓤 _) $ await ! tt $ pick ! (λ r.
         -- what `columns` ensures, at some last lists
         split ! $ move ! (1 ∷ []) $ use1 W (some (λ (ls : Unit {0} × (Unit {0} × (List ℕ × (List Float × (List ℕ × Unit {0}))))). ‵ (lasts columns.ended κs given-on ls) ⊛ raw (fact 𝓤 (Said r (ls .1 .1 .0) (ls .1 .1 .1 .0) (ls .1 .1 .1 .1 .0))))) (id⊢ 𝓤 _) $ pick ! (λ ls.
         split ! $ move ! (1 ∷ []) $ heard ! (Said r (ls .1 .1 .0) (ls .1 .1 .1 .0) (ls .1 .1 .1 .1 .0)) (λ f.

@@ -1,15 +1,10 @@
 -- `reply::entries::by_boundary` meets its contract. Assumes nothing.
 use mathlib.Core.Path.{_≡_, sym, ap, _∙_}
-use mathlib.Core.Bool.{true, false}
-use Prim.Native.Nat.{ℕ}
-use lib.Dec.{ltb}
-use lib.ListN.{getD}
 use mir.Syntax.{w32}
 use mir.ValLaws.{toZ-ofZ}
 use borrow.Author.Tests.{lt-ltb, le-ltb}
-use Rattle.boundary.specs.Boundary.{boundaryRule}
 use Rattle.reply.specs.Shape.{oneOf, placeOf}
-use Rattle.reply.specs.Entries.{boundaries, boundaryReply}
+use Rattle.reply.specs.Entries.{boundaryReply}
 use borrow.Author.Needs.{needs}
 use Rattle.reply.proofs.entries.by_boundary.Statement.{statement}
 use Rattle.reply.proofs.entries.by_boundary.Tie as tie

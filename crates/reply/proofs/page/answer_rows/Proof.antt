@@ -1,7 +1,7 @@
 -- `reply::answer_rows` meets its contract: after i turns the first i replies stand in the page. Assumes nothing.
-use mathlib.Core.Path.{_≡_, refl, sym, ap, _∙_}
+use mathlib.Core.Path.{_≡_, sym, ap, _∙_}
 use mathlib.Core.List.{List}
-use Prim.Native.Nat.{ℕ, _+_, _-_, _*_, _/_, _≤_, min}
+use Prim.Native.Nat.{ℕ, _-_, _*_, _≤_}
 use native.Mathlib.Nat.{le-antisymm, zero-add}
 use native.Mathlib.Omega.{arith}
 use lib.ListN.{length}

@@ -1,6 +1,6 @@
 -- `rules::exponential` meets its contract. Assumes nothing.
 use Prim.Native.Nat.{ℕ, _≤_}
-use mathlib.Core.Path.{_≡_, refl, sym, ap, subst, _∙_}
+use mathlib.Core.Path.{_≡_, sym, ap, subst, _∙_}
 use mathlib.Core.Bool.{true, false}
 use lib.Dec.{T}
 use lib.IntN.{pos}

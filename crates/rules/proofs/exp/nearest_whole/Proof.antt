@@ -1,6 +1,6 @@
 -- `rules::nearest_whole` meets its contract. Assumes nothing.
 use Prim.Native.Nat.{ℕ, _+_, _-_, _*_, _/_, _%_, _^_, _≤_, _<_}
-use mathlib.Core.Path.{_≡_, refl, sym, ap, subst, _∙_}
+use mathlib.Core.Path.{_≡_, sym, ap, subst, _∙_}
 use native.Mathlib.Nat.{lt-of-le-of-lt, div-mul-le-self}
 use native.Mathlib.Omega.{arith}
 use lib.Dec.{T}

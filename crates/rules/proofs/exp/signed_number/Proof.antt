@@ -1,6 +1,5 @@
 -- `rules::signed_number` meets its contract. Assumes nothing.
 use Prim.Native.Nat.{_^_}
-use mathlib.Core.Path.{_≡_, refl}
 use native.Mathlib.Omega.{arith}
 use lib.Dec.{le→leb}
 use lib.Ieee.{inFloat, ofInt, round, ofBits}

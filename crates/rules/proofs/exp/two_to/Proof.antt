@@ -1,6 +1,5 @@
 -- `rules::two_to` meets its contract. Assumes nothing.
 use Prim.Native.Nat.{_+_, _-_, _*_, _^_}
-use mathlib.Core.Path.{_≡_, refl}
 use native.Mathlib.Omega.{arith}
 use Rattle.rules.proofs.Fields.{no-nan-bits}
 use Rattle.rules.proofs.Exps.{two-up, two-neg}

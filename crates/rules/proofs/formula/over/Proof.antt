@@ -1,7 +1,7 @@
 -- `rules::over` meets its contract. Assumes nothing.
 use mathlib.Core.Path.{_≡_, sym}
 use mathlib.Core.Bool.{true, false}
-use lib.Ieee.{Float, binary64, div}
+use lib.Ieee.{binary64, div}
 use borrow.Author.Needs.{needs}
 use Rattle.common.specs.Outcome.{finite}
 use Rattle.rules.proofs.Formulas.{kept-finite, kept-lost}

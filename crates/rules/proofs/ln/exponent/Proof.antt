@@ -1,6 +1,6 @@
 -- `rules::exponent` meets its contract. Assumes nothing.
 use Prim.Native.Nat.{ℕ, suc, _-_, _^_}
-use mathlib.Core.Path.{_≡_, refl, sym, ap, _∙_}
+use mathlib.Core.Path.{_≡_, ap, _∙_}
 use mathlib.Core.Bool.{true, false}
 use native.Mathlib.Omega.{arith}
 use borrow.Author.Tests.{le-leb, lt-leb}

@@ -1,5 +1,5 @@
 -- `rules::power` meets its contract. Assumes nothing.
-use mathlib.Core.Path.{_≡_, refl, sym, _∙_, ap}
+use mathlib.Core.Path.{_≡_, sym, _∙_, ap}
 use mathlib.Core.Bool.{true, false}
 use lib.Dec.{leb}
 use lib.IntN.{natAbs}

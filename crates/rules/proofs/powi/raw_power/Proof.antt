@@ -4,7 +4,7 @@ use mathlib.Core.Bool.{true, false}
 use Prim.Native.Nat.{ℕ, _<_, _^_}
 use native.Mathlib.Omega.{arith}
 use lib.IntN.{ℤ, pos, negsuc, natAbs}
-use lib.Signed.{ltZ, mag}
+use lib.Signed.{ltZ}
 use lib.Ieee.{Float, nan, inf, fin, binary64, div, ofBits}
 use mir.Syntax.{w32}
 use mir.Val.{SFits}

@@ -1,7 +1,6 @@
 -- `rules::by_digits` meets its contract: one binary digit a turn, with what its square leaves. Assumes nothing.
-use Prim.Native.Nat.{ℕ, _+_, _-_, _*_, _^_, _≤_, _<_}
+use Prim.Native.Nat.{_-_}
 use mathlib.Core.Logic.{⊎-elim}
-use mathlib.Core.Path.{_≡_, refl, sym, subst}
 use native.Mathlib.Omega.{arith}
 use Rattle.rules.proofs.Digits.{Digits, start, bound, digit-0, digit-1, above-0, done, down, up}
 use Rattle.rules.proofs.sqrt.by_digits.Statement.{statement}

@@ -1,5 +1,5 @@
 -- `rules::is_near` meets its contract. Assumes nothing.
-use Prim.Native.Nat.{ℕ, _/_, _%_, _^_}
+use Prim.Native.Nat.{_/_, _%_, _^_}
 use mathlib.Core.Path.{sym}
 use native.Mathlib.Omega.{arith}
 use borrow.Author.Tests.{leb-true}

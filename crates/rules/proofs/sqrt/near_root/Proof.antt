@@ -1,5 +1,4 @@
 -- `rules::near_root` meets its contract. Assumes nothing.
-use mathlib.Core.Path.{_≡_}
 use borrow.Author.Needs.{needs}
 use Rattle.rules.proofs.sqrt.near_root.Statement.{statement}
 use Rattle.rules.proofs.sqrt.near_root.Tie as tie

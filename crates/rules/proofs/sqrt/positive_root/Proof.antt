@@ -1,6 +1,6 @@
 -- `rules::positive_root` meets its contract. Assumes nothing.
 use Prim.Native.Nat.{ℕ, _+_, _*_, _/_, _^_, _≤_, _<_}
-use mathlib.Core.Path.{_≡_, refl, sym, subst, _∙_}
+use mathlib.Core.Path.{sym, subst, _∙_}
 use native.Mathlib.Omega.{arith}
 use Rattle.rules.proofs.Whole.{Half, half-even, half-odd, root-digits, root-is}
 use Rattle.rules.proofs.Fields.{no-nan-bits, packed}

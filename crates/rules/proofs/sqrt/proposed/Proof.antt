@@ -1,7 +1,7 @@
 -- `rules::proposed` meets its contract. Assumes nothing.
-use Prim.Native.Nat.{ℕ, _/_, _^_}
+use Prim.Native.Nat.{_/_, _^_}
 use mathlib.Core.Path.{_≡_}
-use mathlib.Core.Bool.{true, false, not}
+use mathlib.Core.Bool.{true, not}
 use native.Mathlib.Omega.{arith}
 use lib.Dec.{T, le→leb}
 use lib.Ieee.{Float, nan, inf, fin, lt, isNan, inFloat}

@@ -1,5 +1,5 @@
 -- `rules::root` meets its contract. Assumes nothing.
-use mathlib.Core.Path.{_≡_, refl, sym, ap, _∙_}
+use mathlib.Core.Path.{ap, _∙_}
 use mathlib.Core.Logic.{⊎-elim}
 use lib.Ieee.{ofBits}
 use Rattle.common.specs.Outcome.{value}

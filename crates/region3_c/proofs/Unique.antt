@@ -1,0 +1,91 @@
+-- Each contract admits one answer: one refusal byte, and one content of what stands behind each pointer. The theorems are about the contracts'
+-- own readings, `Reads.Post`. Assumes nothing.
+use mathlib.Core.Path.{_≡_, sym, _∙_}
+use mathlib.Core.List.{List}
+use Prim.Native.Nat.{ℕ}
+use lib.Ieee.{Float}
+use denote.Ref.{now}
+use contract.Lifetimes.{Lfts}
+use denote.Triple.Clauses.{AtExit}
+use borrow.Fn.Kinds.{PK, RK, Out, Dens, endedOf, resT}
+use Rattle.region3.specs.Columns.{Lent, lent}
+use Rattle.region3_c.proofs.r3_power.Kinds as power-kinds
+use Rattle.region3_c.proofs.r3_power.Reads as power
+use Rattle.region3_c.proofs.r3_root.Kinds as root-kinds
+use Rattle.region3_c.proofs.r3_root.Reads as root
+use Rattle.region3_c.proofs.r3_logarithm.Kinds as logarithm-kinds
+use Rattle.region3_c.proofs.r3_logarithm.Reads as logarithm
+use Rattle.region3_c.proofs.r3_exponential.Kinds as exponential-kinds
+use Rattle.region3_c.proofs.r3_exponential.Reads as exponential
+use Rattle.region3_c.proofs.r3_p_saturation.Kinds as p-saturation-kinds
+use Rattle.region3_c.proofs.r3_p_saturation.Reads as p-saturation
+use Rattle.region3_c.proofs.r3_t_saturation.Kinds as t-saturation-kinds
+use Rattle.region3_c.proofs.r3_t_saturation.Reads as t-saturation
+use Rattle.region3_c.proofs.r3_property.Kinds as property-kinds
+use Rattle.region3_c.proofs.r3_property.Reads as property
+use Rattle.region3_c.proofs.r3_letter.Kinds as letter-kinds
+use Rattle.region3_c.proofs.r3_letter.Reads as letter
+use Rattle.region3_c.proofs.r3_td.Kinds as td-kinds
+use Rattle.region3_c.proofs.r3_td.Reads as td
+use Rattle.region3_c.proofs.r3_pt.Kinds as pt-kinds
+use Rattle.region3_c.proofs.r3_pt.Reads as pt
+use Rattle.region3_c.proofs.r3_ph.Kinds as ph-kinds
+use Rattle.region3_c.proofs.r3_ph.Reads as ph
+use Rattle.region3_c.proofs.r3_ps.Kinds as ps-kinds
+use Rattle.region3_c.proofs.r3_ps.Reads as ps
+use Rattle.region3_c.proofs.r3_hs.Kinds as hs-kinds
+use Rattle.region3_c.proofs.r3_hs.Reads as hs
+use Rattle.region3_c.proofs.r3_columns.Kinds as columns-kinds
+use Rattle.region3_c.proofs.r3_columns.Reads as columns
+
+-- of any arguments, a contract admits one result and one content of what `behind` names
+abbrev pub OneBehind : (n : ℕ) (ps : List (PK n)) (r : RK n) → Out n ps r → (A : Type 0) → ((κs : Lfts n) → AtExit (endedOf n ps r) κs → A) → Type 0
+OneBehind n ps r post A behind =
+    (κs : Lfts n) (a : Dens κs ps) (d e : AtExit (endedOf n ps r) κs) (x y : resT r κs .Denot) →
+    post κs a x d → post κs a y e → (x ≡ y) × (behind κs d ≡ behind κs e)
+
+both : {A B : Type 0} {a b m : A} {c d n : B} → (a ≡ m) × (c ≡ n) → (b ≡ m) × (d ≡ n) → (a ≡ b) × (c ≡ d)
+both p q = (p .0 ∙ sym (q .0), p .1 ∙ sym (q .1))
+
+pub power-one : OneBehind 1 power-kinds.ps power-kinds.r power.Post Float (λ κs d. now (d .1 .1 .0))
+power-one κs a d e x y p q = both p q
+
+pub root-one : OneBehind 1 root-kinds.ps root-kinds.r root.Post Float (λ κs d. now (d .1 .0))
+root-one κs a d e x y p q = both p q
+
+pub logarithm-one : OneBehind 1 logarithm-kinds.ps logarithm-kinds.r logarithm.Post Float (λ κs d. now (d .1 .0))
+logarithm-one κs a d e x y p q = both p q
+
+pub exponential-one : OneBehind 1 exponential-kinds.ps exponential-kinds.r exponential.Post Float (λ κs d. now (d .1 .0))
+exponential-one κs a d e x y p q = both p q
+
+pub p-saturation-one : OneBehind 1 p-saturation-kinds.ps p-saturation-kinds.r p-saturation.Post Float (λ κs d. now (d .1 .0))
+p-saturation-one κs a d e x y p q = both p q
+
+pub t-saturation-one : OneBehind 1 t-saturation-kinds.ps t-saturation-kinds.r t-saturation.Post Float (λ κs d. now (d .1 .0))
+t-saturation-one κs a d e x y p q = both p q
+
+pub property-one : OneBehind 1 property-kinds.ps property-kinds.r property.Post Float (λ κs d. now (d .1 .1 .1 .0))
+property-one κs a d e x y p q = both p q
+
+pub letter-one : OneBehind 1 letter-kinds.ps letter-kinds.r letter.Post ℕ (λ κs d. now (d .1 .1 .0))
+letter-one κs a d e x y p q = both p q
+
+pub td-one : OneBehind 1 td-kinds.ps td-kinds.r td.Post (List Float) (λ κs d. now (d .1 .1 .0))
+td-one κs a d e x y p q = both p q
+
+pub pt-one : OneBehind 1 pt-kinds.ps pt-kinds.r pt.Post (List Float) (λ κs d. now (d .1 .1 .0))
+pt-one κs a d e x y p q = both p q
+
+pub ph-one : OneBehind 1 ph-kinds.ps ph-kinds.r ph.Post (List Float) (λ κs d. now (d .1 .1 .0))
+ph-one κs a d e x y p q = both p q
+
+pub ps-one : OneBehind 1 ps-kinds.ps ps-kinds.r ps.Post (List Float) (λ κs d. now (d .1 .1 .0))
+ps-one κs a d e x y p q = both p q
+
+pub hs-one : OneBehind 1 hs-kinds.ps hs-kinds.r hs.Post (List Float) (λ κs d. now (d .1 .1 .0))
+hs-one κs a d e x y p q = both p q
+
+-- every byte of the three columns
+pub columns-one : OneBehind 5 columns-kinds.ps columns-kinds.r columns.Post Lent (λ κs d. lent (now (d .1 .1 .0)) (now (d .1 .1 .1 .0)) (now (d .1 .1 .1 .1 .0)))
+columns-one κs a d e x y p q = both p q
