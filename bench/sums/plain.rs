@@ -4,20 +4,7 @@ mod tables {
     include!(env!("TABLES"));
 }
 
-fn power(a: f64, n: i32) -> f64 {
-    let (mut r, mut a, mut k) = (1.0, a, n.unsigned_abs());
-    loop {
-        if k & 1 == 1 {
-            r *= a;
-        }
-        k >>= 1;
-        if k == 0 {
-            break;
-        }
-        a *= a;
-    }
-    if n < 0 { 1.0 / r } else { r }
-}
+include!("../power.rs");
 
 fn poly_powi(vi: f64, vj: f64, rows: &[(i32, i32, f64)]) -> f64 {
     let mut sum = 0.0;
