@@ -1,6 +1,7 @@
 #!/usr/bin/env python3
-# volume_tables.py RUST: reads the tables of seuif97's region 3 equations (RUST is its src/r3) and writes, for the crates volume and
-# backward, the columns of each table in src/, its rows as the documents print them in specs/, and the proof that the two are one table.
+# volume_tables.py RUST: reads the tables of seuif97's region 3 equations (RUST is its src/r3) and writes, for the crates tables and
+# backward, the columns of each table and their sum in src/, and its rows as the documents print them in specs/. That the two are one table
+# is proved there.
 # The files that it writes are ours to read and format (rt fmt); it is run again only if the Rust's tables change.
 import os
 import re
@@ -76,46 +77,25 @@ def column(kind, name, values):
     return f'const {name}: [{kind}; {len(values)}] = [\n' + ''.join(f'    {v},\n' for v in values) + '];\n'
 
 
-def code_table(key, spec, what, rows, summed):
+def columns(key, what, rows, summed):
     name = key.upper()
-    ui, di, uj, dj = reach(rows)
-    part = f'[0..SUMMED_{name}]' if summed != len(rows) else ''
     out = f'// {what}\n'
     out += column('i32', f'I{name}', [r[0] for r in rows]) + '\n'
     out += column('i32', f'J{name}', [r[1] for r in rows]) + '\n'
     out += column('f64', f'N{name}', [literal(r) for r in rows]) + '\n'
-    if part:
+    if summed != len(rows):
         out += f'// The Rust\'s steps end at {summed} of the {len(rows)} rows.\nconst SUMMED_{name}: usize = {summed};\n\n'
-    out += f'pub fn sum_{key}(x: f64, y: f64) -> f64\n'
-    out += f'    ensures {{ λ r. ⌜ r ≡ orNan (sumRule term x y {spec}) ⌝ }}\n{{\n'
-    out += f'    const_sum(x, y, Reach {{ up_i: {ui}, down_i: {di}, up_j: {uj}, down_j: {dj} }}, &I{name}{part}, &J{name}{part}, &N{name}{part})\n}}\n'
     return out
 
 
-def proof(crate, key, spec, summed):
-    dashed = 'sum-' + key.replace('_', '-')
-    needs = '\n    '.join(['(λ c. search needs)'] * (9 if summed else 3))
-    return f'''-- `{crate}::sum_{key}` meets its contract: antt computes that the columns are the table's, the bits of each literal those of its decimal.
--- Assumes nothing.
-use mathlib.Core.Path.{{refl}}
-use lib.Ieee.{{ofBits}}
-use borrow.Author.Needs.{{needs}}
-use Rattle.common.specs.Sum.{{every}}
-use Rattle.common.specs.Decimal.{{more, less, scaled}}
-use Rattle.algo.specs.Table.{{rowsOf}}
-use Rattle.{crate}.specs.Printed.{{{spec}}}
-use Rattle.{crate}.proofs.columns.sum_{key}.Statement.{{statement}}
-use Rattle.{crate}.proofs.columns.sum_{key}.Tie as tie
-
-pub {dashed}-spec : {{M : Type 1}} → statement M
-unfolding rowsOf every {spec} more less scaled ofBits
-{dashed}-spec =
-    tie.close
-    (tie.spec
-    {needs}
-    (λ c κs. (refl, refl, tt))
-    (λ c. c .const-sum .ensures))
-'''
+def arm(kind, key, rows, summed):
+    name = key.upper()
+    variant = name[1:] if kind == 'Letter' else ''.join(w[0].upper() + w[1:] for w in key.split('_'))
+    ui, di, uj, dj = reach(rows)
+    part = f'[0..SUMMED_{name}]' if summed != len(rows) else ''
+    lines = [f'{kind}::{variant} => {{', f'let is = I{name};', f'let js = J{name};', f'let ns = N{name};']
+    lines += [f'const_sum(x, y, Reach {{ up_i: {ui}, down_i: {di}, up_j: {uj}, down_j: {dj} }}, &is{part}, &js{part}, &ns{part})', '}']
+    return '\n'.join(lines) + '\n'
 
 
 def write(path, text):
@@ -124,10 +104,9 @@ def write(path, text):
         f.write(text)
 
 
-def crate(name, document, tables):
+def crate(name, document, tables, function, of, whose, rule, rule_use, kind_use):
     """tables: key, what the document calls it, rows, how many of them are summed"""
     specs = {key: ('table' + key if key[0] == '3' else 'table-' + key.replace('_', '-')) for key, _, _, _ in tables}
-    summed = {key: (f'(take {n} {specs[key]})' if n != len(rows) else specs[key]) for key, _, rows, n in tables}
     short = any(key == '3z' for key in specs)
     text = f'''-- The tables of {document}, as printed: a row has I, J and n = 0.digits * 10^e. Assumes nothing: these are definitions.
 '''
@@ -155,20 +134,27 @@ less14 digits e = scaled true digits 14 e
 '''
     text += '\n'.join(spec_table(specs[key], what, rows) for key, what, rows, _ in tables)
     write(f'crates/{name}/specs/Printed.antt', text)
-    cut = 'ghost use lib.ListN.{take};\n' if any(n != len(rows) for _, _, rows, n in tables) else ''
+    uses = sorted(['use algo::Reach;', 'use algo::const_sum;', kind_use], key=lambda u: (not u.startswith('use crate'), u))
     code = f'''// The tables of {document} by column, and the sum of each. specs/Printed.antt has their rows as printed.
-use algo::Reach;
-use algo::const_sum;
+{chr(10).join(uses)}
 ghost use mathlib.Core.Path.{{_≡_}};
-{cut}ghost use Rattle.common.specs.Outcome.{{orNan}};
+ghost use Rattle.common.specs.Outcome.{{orNan}};
 ghost use Rattle.algo.specs.Table.{{sumRule, term}};
-ghost use Rattle.{name}.specs.Printed.{{{', '.join(specs.values())}}};
+ghost use Rattle.{name}.specs.{rule_use};
 
 '''
-    code += '\n'.join(code_table(key, summed[key], what, rows, n) for key, what, rows, n in tables)
+    code += '\n'.join(columns(key, what, rows, n) for key, what, rows, n in tables)
+    code += f'''
+// The sum of n * x^I * y^J over the rows of {whose} table, or a NaN where it is refused. A constant that is lent is built where its function
+// starts, and one that is bound where it is bound: so each arm binds its own.
+pub fn {function}({of}, x: f64, y: f64) -> f64
+    ensures {{ λ r. ⌜ r ≡ orNan (sumRule term x y ({rule})) ⌝ }}
+{{
+    match {of[0]} {{
+{''.join(arm(of.split(': ')[1], key, rows, n) for key, _, rows, n in tables)}    }}
+}}
+'''
     write(f'crates/{name}/src/columns.rt', code)
-    for key, _, rows, n in tables:
-        write(f'crates/{name}/proofs/columns/sum_{key}/Proof.antt', proof(name, key, specs[key], n != len(rows)))
 
 
 def main(rust):
@@ -182,8 +168,11 @@ def main(rust):
     letters = of(read('region3_v_subregion_pT.rs'), VOLUME)
     # the Rust's steps of letter l end at 42 of 43 rows
     letters = [(key, what, rows, 42 if key == '3l' else n) for key, what, rows, n in letters]
-    crate('tables', 'S05rev', letters)
-    crate('backward', 'S03rev and S04rev', of(read('region3_Tv_phps.rs'), PHPS) + of(read('region3_p_hs.rs'), HS))
+    crate('tables', 'S05rev', letters, 'letter_sum', 'l: Letter', "a letter's", 'summed l', 'Summed.{summed}', 'use letter::Letter;')
+    equations = of(read('region3_Tv_phps.rs'), PHPS) + of(read('region3_p_hs.rs'), HS)
+    crate(
+        'backward', 'S03rev and S04rev', equations, 'sum', 'e: Equation', "an equation's", 'tableOf e', 'Equation.{tableOf}', 'use crate::Equation;'
+    )
 
 
 if __name__ == '__main__':

@@ -1,10 +1,11 @@
 // The tables of S03rev and S04rev by column, and the sum of each. specs/Printed.antt has their rows as printed.
+use crate::Equation;
 use algo::Reach;
 use algo::const_sum;
 ghost use mathlib.Core.Path.{_≡_};
 ghost use Rattle.common.specs.Outcome.{orNan};
 ghost use Rattle.algo.specs.Table.{sumRule, term};
-ghost use Rattle.backward.specs.Printed.{table-t3a-ph, table-t3b-ph, table-v3a-ph, table-v3b-ph, table-t3a-ps, table-t3b-ps, table-v3a-ps, table-v3b-ps, table-p3a-hs, table-p3b-hs};
+ghost use Rattle.backward.specs.Equation.{tableOf};
 
 // T3a(p,h)
 const IT3A_PH: [i32; 31] = [
@@ -108,24 +109,6 @@ const NT3A_PH: [f64; 31] = [
     1.36176427574291e-2,
     -1.33027883575669e-2,
 ];
-
-pub fn sum_t3a_ph(x: f64, y: f64) -> f64
-    ensures { λ r. ⌜ r ≡ orNan (sumRule term x y table-t3a-ph) ⌝ }
-{
-    const_sum(
-        x,
-        y,
-        Reach {
-            up_i: 12,
-            down_i: 12,
-            up_j: 22,
-            down_j: 0,
-        },
-        &IT3A_PH,
-        &JT3A_PH,
-        &NT3A_PH,
-    )
-}
 
 // T3b(p,h)
 const IT3B_PH: [i32; 33] = [
@@ -236,24 +219,6 @@ const NT3B_PH: [f64; 33] = [
     6.76682064330275e-3,
 ];
 
-pub fn sum_t3b_ph(x: f64, y: f64) -> f64
-    ensures { λ r. ⌜ r ≡ orNan (sumRule term x y table-t3b-ph) ⌝ }
-{
-    const_sum(
-        x,
-        y,
-        Reach {
-            up_i: 8,
-            down_i: 12,
-            up_j: 16,
-            down_j: 0,
-        },
-        &IT3B_PH,
-        &JT3B_PH,
-        &NT3B_PH,
-    )
-}
-
 // v3a(p,h)
 const IV3A_PH: [i32; 32] = [
     -12,
@@ -360,24 +325,6 @@ const NV3A_PH: [f64; 32] = [
     -4.08757344495612e-2,
 ];
 
-pub fn sum_v3a_ph(x: f64, y: f64) -> f64
-    ensures { λ r. ⌜ r ≡ orNan (sumRule term x y table-v3a-ph) ⌝ }
-{
-    const_sum(
-        x,
-        y,
-        Reach {
-            up_i: 8,
-            down_i: 12,
-            up_j: 22,
-            down_j: 0,
-        },
-        &IV3A_PH,
-        &JV3A_PH,
-        &NV3A_PH,
-    )
-}
-
 // v3b(p,h)
 const IV3B_PH: [i32; 30] = [
     -12,
@@ -477,24 +424,6 @@ const NV3B_PH: [f64; 30] = [
     -5.36288335065096e-2,
     1.60697101092520,
 ];
-
-pub fn sum_v3b_ph(x: f64, y: f64) -> f64
-    ensures { λ r. ⌜ r ≡ orNan (sumRule term x y table-v3b-ph) ⌝ }
-{
-    const_sum(
-        x,
-        y,
-        Reach {
-            up_i: 2,
-            down_i: 12,
-            up_j: 10,
-            down_j: 0,
-        },
-        &IV3B_PH,
-        &JV3B_PH,
-        &NV3B_PH,
-    )
-}
 
 // T3a(p,s)
 const IT3A_PS: [i32; 33] = [
@@ -605,24 +534,6 @@ const NT3A_PS: [f64; 33] = [
     0.123220024851555e-2,
 ];
 
-pub fn sum_t3a_ps(x: f64, y: f64) -> f64
-    ensures { λ r. ⌜ r ≡ orNan (sumRule term x y table-t3a-ps) ⌝ }
-{
-    const_sum(
-        x,
-        y,
-        Reach {
-            up_i: 10,
-            down_i: 12,
-            up_j: 36,
-            down_j: 0,
-        },
-        &IT3A_PS,
-        &JT3A_PS,
-        &NT3A_PS,
-    )
-}
-
 // T3b(p,s)
 const IT3B_PS: [i32; 28] = [
     -12,
@@ -717,24 +628,6 @@ const NT3B_PS: [f64; 28] = [
     -0.215095749182309e-4,
 ];
 
-pub fn sum_t3b_ps(x: f64, y: f64) -> f64
-    ensures { λ r. ⌜ r ≡ orNan (sumRule term x y table-t3b-ps) ⌝ }
-{
-    const_sum(
-        x,
-        y,
-        Reach {
-            up_i: 14,
-            down_i: 12,
-            up_j: 24,
-            down_j: 0,
-        },
-        &IT3B_PS,
-        &JT3B_PS,
-        &NT3B_PS,
-    )
-}
-
 // v3a(p,s)
 const IV3A_PS: [i32; 28] = [
     -12,
@@ -828,24 +721,6 @@ const NV3A_PS: [f64; 28] = [
     0.257988576101640e-1,
     -0.145749861944416e-3,
 ];
-
-pub fn sum_v3a_ps(x: f64, y: f64) -> f64
-    ensures { λ r. ⌜ r ≡ orNan (sumRule term x y table-v3a-ps) ⌝ }
-{
-    const_sum(
-        x,
-        y,
-        Reach {
-            up_i: 6,
-            down_i: 12,
-            up_j: 28,
-            down_j: 0,
-        },
-        &IV3A_PS,
-        &JV3A_PS,
-        &NV3A_PS,
-    )
-}
 
 // v3b(p,s)
 const IV3B_PS: [i32; 31] = [
@@ -949,24 +824,6 @@ const NV3B_PS: [f64; 31] = [
     0.146407900162154e2,
     -0.327477787188230e1,
 ];
-
-pub fn sum_v3b_ps(x: f64, y: f64) -> f64
-    ensures { λ r. ⌜ r ≡ orNan (sumRule term x y table-v3b-ps) ⌝ }
-{
-    const_sum(
-        x,
-        y,
-        Reach {
-            up_i: 2,
-            down_i: 12,
-            up_j: 12,
-            down_j: 0,
-        },
-        &IV3B_PS,
-        &JV3B_PS,
-        &NV3B_PS,
-    )
-}
 
 // p3a(h,s)
 const IP3A_HS: [i32; 33] = [
@@ -1076,24 +933,6 @@ const NP3A_HS: [f64; 33] = [
     0.159145847398870e25,
     0.377121605943324e41,
 ];
-
-pub fn sum_p3a_hs(x: f64, y: f64) -> f64
-    ensures { λ r. ⌜ r ≡ orNan (sumRule term x y table-p3a-hs) ⌝ }
-{
-    const_sum(
-        x,
-        y,
-        Reach {
-            up_i: 32,
-            down_i: 0,
-            up_j: 36,
-            down_j: 0,
-        },
-        &IP3A_HS,
-        &JP3A_HS,
-        &NP3A_HS,
-    )
-}
 
 // p3b(h,s)
 const IP3B_HS: [i32; 35] = [
@@ -1210,20 +1049,191 @@ const NP3B_HS: [f64; 35] = [
     0.568795808129714e10,
 ];
 
-pub fn sum_p3b_hs(x: f64, y: f64) -> f64
-    ensures { λ r. ⌜ r ≡ orNan (sumRule term x y table-p3b-hs) ⌝ }
+// The sum of n * x^I * y^J over the rows of an equation's table, or a NaN where it is refused. A constant that is lent is built where its function
+// starts, and one that is bound where it is bound: so each arm binds its own.
+pub fn sum(e: Equation, x: f64, y: f64) -> f64
+    ensures { λ r. ⌜ r ≡ orNan (sumRule term x y (tableOf e)) ⌝ }
 {
-    const_sum(
-        x,
-        y,
-        Reach {
-            up_i: 14,
-            down_i: 12,
-            up_j: 20,
-            down_j: 0,
-        },
-        &IP3B_HS,
-        &JP3B_HS,
-        &NP3B_HS,
-    )
+    match e {
+        Equation::T3aPh => {
+            let is = IT3A_PH;
+            let js = JT3A_PH;
+            let ns = NT3A_PH;
+            const_sum(
+                x,
+                y,
+                Reach {
+                    up_i: 12,
+                    down_i: 12,
+                    up_j: 22,
+                    down_j: 0,
+                },
+                &is,
+                &js,
+                &ns,
+            )
+        }
+        Equation::T3bPh => {
+            let is = IT3B_PH;
+            let js = JT3B_PH;
+            let ns = NT3B_PH;
+            const_sum(
+                x,
+                y,
+                Reach {
+                    up_i: 8,
+                    down_i: 12,
+                    up_j: 16,
+                    down_j: 0,
+                },
+                &is,
+                &js,
+                &ns,
+            )
+        }
+        Equation::V3aPh => {
+            let is = IV3A_PH;
+            let js = JV3A_PH;
+            let ns = NV3A_PH;
+            const_sum(
+                x,
+                y,
+                Reach {
+                    up_i: 8,
+                    down_i: 12,
+                    up_j: 22,
+                    down_j: 0,
+                },
+                &is,
+                &js,
+                &ns,
+            )
+        }
+        Equation::V3bPh => {
+            let is = IV3B_PH;
+            let js = JV3B_PH;
+            let ns = NV3B_PH;
+            const_sum(
+                x,
+                y,
+                Reach {
+                    up_i: 2,
+                    down_i: 12,
+                    up_j: 10,
+                    down_j: 0,
+                },
+                &is,
+                &js,
+                &ns,
+            )
+        }
+        Equation::T3aPs => {
+            let is = IT3A_PS;
+            let js = JT3A_PS;
+            let ns = NT3A_PS;
+            const_sum(
+                x,
+                y,
+                Reach {
+                    up_i: 10,
+                    down_i: 12,
+                    up_j: 36,
+                    down_j: 0,
+                },
+                &is,
+                &js,
+                &ns,
+            )
+        }
+        Equation::T3bPs => {
+            let is = IT3B_PS;
+            let js = JT3B_PS;
+            let ns = NT3B_PS;
+            const_sum(
+                x,
+                y,
+                Reach {
+                    up_i: 14,
+                    down_i: 12,
+                    up_j: 24,
+                    down_j: 0,
+                },
+                &is,
+                &js,
+                &ns,
+            )
+        }
+        Equation::V3aPs => {
+            let is = IV3A_PS;
+            let js = JV3A_PS;
+            let ns = NV3A_PS;
+            const_sum(
+                x,
+                y,
+                Reach {
+                    up_i: 6,
+                    down_i: 12,
+                    up_j: 28,
+                    down_j: 0,
+                },
+                &is,
+                &js,
+                &ns,
+            )
+        }
+        Equation::V3bPs => {
+            let is = IV3B_PS;
+            let js = JV3B_PS;
+            let ns = NV3B_PS;
+            const_sum(
+                x,
+                y,
+                Reach {
+                    up_i: 2,
+                    down_i: 12,
+                    up_j: 12,
+                    down_j: 0,
+                },
+                &is,
+                &js,
+                &ns,
+            )
+        }
+        Equation::P3aHs => {
+            let is = IP3A_HS;
+            let js = JP3A_HS;
+            let ns = NP3A_HS;
+            const_sum(
+                x,
+                y,
+                Reach {
+                    up_i: 32,
+                    down_i: 0,
+                    up_j: 36,
+                    down_j: 0,
+                },
+                &is,
+                &js,
+                &ns,
+            )
+        }
+        Equation::P3bHs => {
+            let is = IP3B_HS;
+            let js = JP3B_HS;
+            let ns = NP3B_HS;
+            const_sum(
+                x,
+                y,
+                Reach {
+                    up_i: 14,
+                    down_i: 12,
+                    up_j: 20,
+                    down_j: 0,
+                },
+                &is,
+                &js,
+                &ns,
+            )
+        }
+    }
 }

@@ -1,39 +1,12 @@
 // What the backward equations share: reduce, shift, sum and scale. The steps are raw: a number that is lost travels as itself to the end.
 use crate::Equation;
 use crate::Form;
-use crate::columns::sum_p3a_hs;
-use crate::columns::sum_p3b_hs;
-use crate::columns::sum_t3a_ph;
-use crate::columns::sum_t3a_ps;
-use crate::columns::sum_t3b_ph;
-use crate::columns::sum_t3b_ps;
-use crate::columns::sum_v3a_ph;
-use crate::columns::sum_v3a_ps;
-use crate::columns::sum_v3b_ph;
-use crate::columns::sum_v3b_ps;
+use crate::columns::sum;
 use rules::over;
 ghost use mathlib.Core.Path.{_≡_};
 ghost use Rattle.common.specs.Outcome.{check, orNan};
 ghost use Rattle.algo.specs.Table.{sumRule, term};
 ghost use Rattle.backward.specs.Equation.{tableOf, formOf, workedBy, worked};
-
-// The sum of an equation's table, or a NaN where it is refused.
-fn sum(e: Equation, x: f64, y: f64) -> f64
-    ensures { λ r. ⌜ r ≡ orNan (sumRule term x y (tableOf e)) ⌝ }
-{
-    match e {
-        Equation::T3aPh => sum_t3a_ph(x, y),
-        Equation::T3bPh => sum_t3b_ph(x, y),
-        Equation::V3aPh => sum_v3a_ph(x, y),
-        Equation::V3bPh => sum_v3b_ph(x, y),
-        Equation::T3aPs => sum_t3a_ps(x, y),
-        Equation::T3bPs => sum_t3b_ps(x, y),
-        Equation::V3aPs => sum_v3a_ps(x, y),
-        Equation::V3bPs => sum_v3b_ps(x, y),
-        Equation::P3aHs => sum_p3a_hs(x, y),
-        Equation::P3bHs => sum_p3b_hs(x, y),
-    }
-}
 
 fn form(e: Equation) -> Form
     ensures { λ r. ⌜ r ≡ formOf e ⌝ }

@@ -1,11 +1,11 @@
 // The tables of S05rev by column, and the sum of each. specs/Printed.antt has their rows as printed.
 use algo::Reach;
 use algo::const_sum;
+use letter::Letter;
 ghost use mathlib.Core.Path.{_≡_};
-ghost use lib.ListN.{take};
 ghost use Rattle.common.specs.Outcome.{orNan};
 ghost use Rattle.algo.specs.Table.{sumRule, term};
-ghost use Rattle.tables.specs.Printed.{table3a, table3b, table3c, table3d, table3e, table3f, table3g, table3h, table3i, table3j, table3k, table3l, table3m, table3n, table3o, table3p, table3q, table3r, table3s, table3t, table3u, table3v, table3w, table3x, table3y, table3z};
+ghost use Rattle.tables.specs.Summed.{summed};
 
 // v3a(p,T)
 const I3A: [i32; 30] = [
@@ -106,24 +106,6 @@ const N3A: [f64; 30] = [
     0.633828037528420e-2,
     0.797441793901017e-1,
 ];
-
-pub fn sum_3a(x: f64, y: f64) -> f64
-    ensures { λ r. ⌜ r ≡ orNan (sumRule term x y table3a) ⌝ }
-{
-    const_sum(
-        x,
-        y,
-        Reach {
-            up_i: 2,
-            down_i: 12,
-            up_j: 12,
-            down_j: 0,
-        },
-        &I3A,
-        &J3A,
-        &N3A,
-    )
-}
 
 // v3b(p,T)
 const I3B: [i32; 32] = [
@@ -230,24 +212,6 @@ const N3B: [f64; 32] = [
     -0.269798180310075e-1,
     0.128369435967012,
 ];
-
-pub fn sum_3b(x: f64, y: f64) -> f64
-    ensures { λ r. ⌜ r ≡ orNan (sumRule term x y table3b) ⌝ }
-{
-    const_sum(
-        x,
-        y,
-        Reach {
-            up_i: 4,
-            down_i: 12,
-            up_j: 14,
-            down_j: 0,
-        },
-        &I3B,
-        &J3B,
-        &N3B,
-    )
-}
 
 // v3c(p,T)
 const I3C: [i32; 35] = [
@@ -363,24 +327,6 @@ const N3C: [f64; 35] = [
     -1.07077716660869e6,
     4.38319858566475e-2,
 ];
-
-pub fn sum_3c(x: f64, y: f64) -> f64
-    ensures { λ r. ⌜ r ≡ orNan (sumRule term x y table3c) ⌝ }
-{
-    const_sum(
-        x,
-        y,
-        Reach {
-            up_i: 8,
-            down_i: 12,
-            up_j: 10,
-            down_j: 0,
-        },
-        &I3C,
-        &J3C,
-        &N3C,
-    )
-}
 
 // v3d(p,T)
 const I3D: [i32; 38] = [
@@ -506,24 +452,6 @@ const N3D: [f64; 38] = [
     5.51478022765087e-3,
 ];
 
-pub fn sum_3d(x: f64, y: f64) -> f64
-    ensures { λ r. ⌜ r ≡ orNan (sumRule term x y table3d) ⌝ }
-{
-    const_sum(
-        x,
-        y,
-        Reach {
-            up_i: 3,
-            down_i: 12,
-            up_j: 16,
-            down_j: 0,
-        },
-        &I3D,
-        &J3D,
-        &N3D,
-    )
-}
-
 // v3e(p,T)
 const I3E: [i32; 29] = [
     -12,
@@ -620,24 +548,6 @@ const N3E: [f64; 29] = [
     4.13197481515899e-1,
     -3.41931835910405e1,
 ];
-
-pub fn sum_3e(x: f64, y: f64) -> f64
-    ensures { λ r. ⌜ r ≡ orNan (sumRule term x y table3e) ⌝ }
-{
-    const_sum(
-        x,
-        y,
-        Reach {
-            up_i: 2,
-            down_i: 12,
-            up_j: 16,
-            down_j: 0,
-        },
-        &I3E,
-        &J3E,
-        &N3E,
-    )
-}
 
 // v3f(p,T)
 const I3F: [i32; 42] = [
@@ -775,24 +685,6 @@ const N3F: [f64; 42] = [
     -4.86632965074563e-10,
 ];
 
-pub fn sum_3f(x: f64, y: f64) -> f64
-    ensures { λ r. ⌜ r ≡ orNan (sumRule term x y table3f) ⌝ }
-{
-    const_sum(
-        x,
-        y,
-        Reach {
-            up_i: 32,
-            down_i: 0,
-            up_j: 3,
-            down_j: 12,
-        },
-        &I3F,
-        &J3F,
-        &N3F,
-    )
-}
-
 // v3g(p,T)
 const I3G: [i32; 38] = [
     -12,
@@ -917,24 +809,6 @@ const N3G: [f64; 38] = [
     -8.37513931798655e15,
 ];
 
-pub fn sum_3g(x: f64, y: f64) -> f64
-    ensures { λ r. ⌜ r ≡ orNan (sumRule term x y table3g) ⌝ }
-{
-    const_sum(
-        x,
-        y,
-        Reach {
-            up_i: 10,
-            down_i: 12,
-            up_j: 24,
-            down_j: 0,
-        },
-        &I3G,
-        &J3G,
-        &N3G,
-    )
-}
-
 // v3h(p,T)
 const I3H: [i32; 29] = [
     -12,
@@ -1031,24 +905,6 @@ const N3H: [f64; 29] = [
     -2.11346402240858e-1,
     2.49971752957491e1,
 ];
-
-pub fn sum_3h(x: f64, y: f64) -> f64
-    ensures { λ r. ⌜ r ≡ orNan (sumRule term x y table3h) ⌝ }
-{
-    const_sum(
-        x,
-        y,
-        Reach {
-            up_i: 1,
-            down_i: 12,
-            up_j: 16,
-            down_j: 0,
-        },
-        &I3H,
-        &J3H,
-        &N3H,
-    )
-}
 
 // v3i(p,T)
 const I3I: [i32; 42] = [
@@ -1186,24 +1042,6 @@ const N3I: [f64; 42] = [
     6.58110546759474e1,
 ];
 
-pub fn sum_3i(x: f64, y: f64) -> f64
-    ensures { λ r. ⌜ r ≡ orNan (sumRule term x y table3i) ⌝ }
-{
-    const_sum(
-        x,
-        y,
-        Reach {
-            up_i: 36,
-            down_i: 0,
-            up_j: 12,
-            down_j: 12,
-        },
-        &I3I,
-        &J3I,
-        &N3I,
-    )
-}
-
 // v3j(p,T)
 const I3J: [i32; 29] = [
     0,
@@ -1300,24 +1138,6 @@ const N3J: [f64; 29] = [
     2.83911742354706e-11,
     2.70929002720228,
 ];
-
-pub fn sum_3j(x: f64, y: f64) -> f64
-    ensures { λ r. ⌜ r ≡ orNan (sumRule term x y table3j) ⌝ }
-{
-    const_sum(
-        x,
-        y,
-        Reach {
-            up_i: 28,
-            down_i: 0,
-            up_j: 3,
-            down_j: 12,
-        },
-        &I3J,
-        &J3J,
-        &N3J,
-    )
-}
 
 // v3k(p,T)
 const I3K: [i32; 34] = [
@@ -1430,24 +1250,6 @@ const N3K: [f64; 34] = [
     -1.49095328506000e-12,
     5.41449377329581e-9,
 ];
-
-pub fn sum_3k(x: f64, y: f64) -> f64
-    ensures { λ r. ⌜ r ≡ orNan (sumRule term x y table3k) ⌝ }
-{
-    const_sum(
-        x,
-        y,
-        Reach {
-            up_i: 12,
-            down_i: 2,
-            up_j: 14,
-            down_j: 12,
-        },
-        &I3K,
-        &J3K,
-        &N3K,
-    )
-}
 
 // v3l(p,T)
 const I3L: [i32; 43] = [
@@ -1591,24 +1393,6 @@ const N3L: [f64; 43] = [
 // The Rust's steps end at 42 of the 43 rows.
 const SUMMED_3L: usize = 42;
 
-pub fn sum_3l(x: f64, y: f64) -> f64
-    ensures { λ r. ⌜ r ≡ orNan (sumRule term x y (take 42 table3l)) ⌝ }
-{
-    const_sum(
-        x,
-        y,
-        Reach {
-            up_i: 14,
-            down_i: 12,
-            up_j: 36,
-            down_j: 0,
-        },
-        &I3L[0..SUMMED_3L],
-        &J3L[0..SUMMED_3L],
-        &N3L[0..SUMMED_3L],
-    )
-}
-
 // v3m(p,T)
 const I3M: [i32; 40] = [
     0,
@@ -1739,24 +1523,6 @@ const N3M: [f64; 40] = [
     4.79817895699239e64,
 ];
 
-pub fn sum_3m(x: f64, y: f64) -> f64
-    ensures { λ r. ⌜ r ≡ orNan (sumRule term x y table3m) ⌝ }
-{
-    const_sum(
-        x,
-        y,
-        Reach {
-            up_i: 28,
-            down_i: 0,
-            up_j: 36,
-            down_j: 0,
-        },
-        &I3M,
-        &J3M,
-        &N3M,
-    )
-}
-
 // v3n(p,T)
 const I3N: [i32; 39] = [
     0,
@@ -1884,24 +1650,6 @@ const N3N: [f64; 39] = [
     4.00849240129329e14,
 ];
 
-pub fn sum_3n(x: f64, y: f64) -> f64
-    ensures { λ r. ⌜ r ≡ orNan (sumRule term x y table3n) ⌝ }
-{
-    const_sum(
-        x,
-        y,
-        Reach {
-            up_i: 18,
-            down_i: 0,
-            up_j: 6,
-            down_j: 12,
-        },
-        &I3N,
-        &J3N,
-        &N3N,
-    )
-}
-
 // v3o(p,T)
 const I3O: [i32; 24] = [
     0,
@@ -1983,24 +1731,6 @@ const N3O: [f64; 24] = [
     3.77682649089149e-9,
     -5.16720236575302e-11,
 ];
-
-pub fn sum_3o(x: f64, y: f64) -> f64
-    ensures { λ r. ⌜ r ≡ orNan (sumRule term x y table3o) ⌝ }
-{
-    const_sum(
-        x,
-        y,
-        Reach {
-            up_i: 24,
-            down_i: 0,
-            up_j: 0,
-            down_j: 12,
-        },
-        &I3O,
-        &J3O,
-        &N3O,
-    )
-}
 
 // v3p(p,T)
 const I3P: [i32; 27] = [
@@ -2093,24 +1823,6 @@ const N3P: [f64; 27] = [
     -3.45042834640005e-4,
 ];
 
-pub fn sum_3p(x: f64, y: f64) -> f64
-    ensures { λ r. ⌜ r ≡ orNan (sumRule term x y table3p) ⌝ }
-{
-    const_sum(
-        x,
-        y,
-        Reach {
-            up_i: 36,
-            down_i: 0,
-            up_j: 2,
-            down_j: 12,
-        },
-        &I3P,
-        &J3P,
-        &N3P,
-    )
-}
-
 // v3q(p,T)
 const I3Q: [i32; 24] = [
     -12,
@@ -2192,24 +1904,6 @@ const N3Q: [f64; 24] = [
     2.47795908411492,
     -3.19114969006533e3,
 ];
-
-pub fn sum_3q(x: f64, y: f64) -> f64
-    ensures { λ r. ⌜ r ≡ orNan (sumRule term x y table3q) ⌝ }
-{
-    const_sum(
-        x,
-        y,
-        Reach {
-            up_i: 1,
-            down_i: 12,
-            up_j: 12,
-            down_j: 0,
-        },
-        &I3Q,
-        &J3Q,
-        &N3Q,
-    )
-}
 
 // v3r(p,T)
 const I3R: [i32; 27] = [
@@ -2301,24 +1995,6 @@ const N3R: [f64; 27] = [
     -3.37209709340105e-10,
     3.77501980025469e-9,
 ];
-
-pub fn sum_3r(x: f64, y: f64) -> f64
-    ensures { λ r. ⌜ r ≡ orNan (sumRule term x y table3r) ⌝ }
-{
-    const_sum(
-        x,
-        y,
-        Reach {
-            up_i: 14,
-            down_i: 8,
-            up_j: 14,
-            down_j: 12,
-        },
-        &I3R,
-        &J3R,
-        &N3R,
-    )
-}
 
 // v3s(p,T)
 const I3S: [i32; 29] = [
@@ -2416,24 +2092,6 @@ const N3S: [f64; 29] = [
     1.93568768917797e9,
     9.50898170425042e53,
 ];
-
-pub fn sum_3s(x: f64, y: f64) -> f64
-    ensures { λ r. ⌜ r ≡ orNan (sumRule term x y table3s) ⌝ }
-{
-    const_sum(
-        x,
-        y,
-        Reach {
-            up_i: 14,
-            down_i: 12,
-            up_j: 36,
-            down_j: 0,
-        },
-        &I3S,
-        &J3S,
-        &N3S,
-    )
-}
 
 // v3t(p,T)
 const I3T: [i32; 33] = [
@@ -2543,24 +2201,6 @@ const N3T: [f64; 33] = [
     -4.44227367758304e71,
     -2.81396013562745e76,
 ];
-
-pub fn sum_3t(x: f64, y: f64) -> f64
-    ensures { λ r. ⌜ r ≡ orNan (sumRule term x y table3t) ⌝ }
-{
-    const_sum(
-        x,
-        y,
-        Reach {
-            up_i: 36,
-            down_i: 0,
-            up_j: 36,
-            down_j: 0,
-        },
-        &I3T,
-        &J3T,
-        &N3T,
-    )
-}
 
 // v3u(p,T)
 const I3U: [i32; 38] = [
@@ -2685,24 +2325,6 @@ const N3U: [f64; 38] = [
     -2.27700464643920e4,
     -7.81754507698846e27,
 ];
-
-pub fn sum_3u(x: f64, y: f64) -> f64
-    ensures { λ r. ⌜ r ≡ orNan (sumRule term x y table3u) ⌝ }
-{
-    const_sum(
-        x,
-        y,
-        Reach {
-            up_i: 14,
-            down_i: 12,
-            up_j: 14,
-            down_j: 12,
-        },
-        &I3U,
-        &J3U,
-        &N3U,
-    )
-}
 
 // v3v(p,T)
 const I3V: [i32; 39] = [
@@ -2831,24 +2453,6 @@ const N3V: [f64; 39] = [
     2.47761392329058e26,
 ];
 
-pub fn sum_3v(x: f64, y: f64) -> f64
-    ensures { λ r. ⌜ r ≡ orNan (sumRule term x y table3v) ⌝ }
-{
-    const_sum(
-        x,
-        y,
-        Reach {
-            up_i: 14,
-            down_i: 10,
-            up_j: 14,
-            down_j: 12,
-        },
-        &I3V,
-        &J3V,
-        &N3V,
-    )
-}
-
 // v3w(p,T)
 const I3W: [i32; 35] = [
     -12,
@@ -2963,24 +2567,6 @@ const N3W: [f64; 35] = [
     2.66170454405981e-14,
     8.58133791857099e-6,
 ];
-
-pub fn sum_3w(x: f64, y: f64) -> f64
-    ensures { λ r. ⌜ r ≡ orNan (sumRule term x y table3w) ⌝ }
-{
-    const_sum(
-        x,
-        y,
-        Reach {
-            up_i: 10,
-            down_i: 12,
-            up_j: 14,
-            down_j: 12,
-        },
-        &I3W,
-        &J3W,
-        &N3W,
-    )
-}
 
 // v3x(p,T)
 const I3X: [i32; 36] = [
@@ -3100,24 +2686,6 @@ const N3X: [f64; 36] = [
     4.30867658061468e6,
 ];
 
-pub fn sum_3x(x: f64, y: f64) -> f64
-    ensures { λ r. ⌜ r ≡ orNan (sumRule term x y table3x) ⌝ }
-{
-    const_sum(
-        x,
-        y,
-        Reach {
-            up_i: 14,
-            down_i: 8,
-            up_j: 14,
-            down_j: 12,
-        },
-        &I3X,
-        &J3X,
-        &N3X,
-    )
-}
-
 // v3y(p,T)
 const I3Y: [i32; 20] = [0, 0, 0, 0, 1, 2, 2, 2, 2, 3, 3, 3, 4, 4, 5, 5, 8, 8, 10, 12];
 
@@ -3166,24 +2734,6 @@ const N3Y: [f64; 20] = [
     5.14411468376383e9,
     -8.28198594040141e4,
 ];
-
-pub fn sum_3y(x: f64, y: f64) -> f64
-    ensures { λ r. ⌜ r ≡ orNan (sumRule term x y table3y) ⌝ }
-{
-    const_sum(
-        x,
-        y,
-        Reach {
-            up_i: 12,
-            down_i: 0,
-            up_j: 8,
-            down_j: 8,
-        },
-        &I3Y,
-        &J3Y,
-        &N3Y,
-    )
-}
 
 // v3z(p,T)
 const I3Z: [i32; 23] = [
@@ -3264,20 +2814,479 @@ const N3Z: [f64; 23] = [
     3.9453604949707e6,
 ];
 
-pub fn sum_3z(x: f64, y: f64) -> f64
-    ensures { λ r. ⌜ r ≡ orNan (sumRule term x y table3z) ⌝ }
+// The sum of n * x^I * y^J over the rows of a letter's table, or a NaN where it is refused. A constant that is lent is built where its function
+// starts, and one that is bound where it is bound: so each arm binds its own.
+pub fn letter_sum(l: Letter, x: f64, y: f64) -> f64
+    ensures { λ r. ⌜ r ≡ orNan (sumRule term x y (summed l)) ⌝ }
 {
-    const_sum(
-        x,
-        y,
-        Reach {
-            up_i: 8,
-            down_i: 8,
-            up_j: 8,
-            down_j: 8,
-        },
-        &I3Z,
-        &J3Z,
-        &N3Z,
-    )
+    match l {
+        Letter::A => {
+            let is = I3A;
+            let js = J3A;
+            let ns = N3A;
+            const_sum(
+                x,
+                y,
+                Reach {
+                    up_i: 2,
+                    down_i: 12,
+                    up_j: 12,
+                    down_j: 0,
+                },
+                &is,
+                &js,
+                &ns,
+            )
+        }
+        Letter::B => {
+            let is = I3B;
+            let js = J3B;
+            let ns = N3B;
+            const_sum(
+                x,
+                y,
+                Reach {
+                    up_i: 4,
+                    down_i: 12,
+                    up_j: 14,
+                    down_j: 0,
+                },
+                &is,
+                &js,
+                &ns,
+            )
+        }
+        Letter::C => {
+            let is = I3C;
+            let js = J3C;
+            let ns = N3C;
+            const_sum(
+                x,
+                y,
+                Reach {
+                    up_i: 8,
+                    down_i: 12,
+                    up_j: 10,
+                    down_j: 0,
+                },
+                &is,
+                &js,
+                &ns,
+            )
+        }
+        Letter::D => {
+            let is = I3D;
+            let js = J3D;
+            let ns = N3D;
+            const_sum(
+                x,
+                y,
+                Reach {
+                    up_i: 3,
+                    down_i: 12,
+                    up_j: 16,
+                    down_j: 0,
+                },
+                &is,
+                &js,
+                &ns,
+            )
+        }
+        Letter::E => {
+            let is = I3E;
+            let js = J3E;
+            let ns = N3E;
+            const_sum(
+                x,
+                y,
+                Reach {
+                    up_i: 2,
+                    down_i: 12,
+                    up_j: 16,
+                    down_j: 0,
+                },
+                &is,
+                &js,
+                &ns,
+            )
+        }
+        Letter::F => {
+            let is = I3F;
+            let js = J3F;
+            let ns = N3F;
+            const_sum(
+                x,
+                y,
+                Reach {
+                    up_i: 32,
+                    down_i: 0,
+                    up_j: 3,
+                    down_j: 12,
+                },
+                &is,
+                &js,
+                &ns,
+            )
+        }
+        Letter::G => {
+            let is = I3G;
+            let js = J3G;
+            let ns = N3G;
+            const_sum(
+                x,
+                y,
+                Reach {
+                    up_i: 10,
+                    down_i: 12,
+                    up_j: 24,
+                    down_j: 0,
+                },
+                &is,
+                &js,
+                &ns,
+            )
+        }
+        Letter::H => {
+            let is = I3H;
+            let js = J3H;
+            let ns = N3H;
+            const_sum(
+                x,
+                y,
+                Reach {
+                    up_i: 1,
+                    down_i: 12,
+                    up_j: 16,
+                    down_j: 0,
+                },
+                &is,
+                &js,
+                &ns,
+            )
+        }
+        Letter::I => {
+            let is = I3I;
+            let js = J3I;
+            let ns = N3I;
+            const_sum(
+                x,
+                y,
+                Reach {
+                    up_i: 36,
+                    down_i: 0,
+                    up_j: 12,
+                    down_j: 12,
+                },
+                &is,
+                &js,
+                &ns,
+            )
+        }
+        Letter::J => {
+            let is = I3J;
+            let js = J3J;
+            let ns = N3J;
+            const_sum(
+                x,
+                y,
+                Reach {
+                    up_i: 28,
+                    down_i: 0,
+                    up_j: 3,
+                    down_j: 12,
+                },
+                &is,
+                &js,
+                &ns,
+            )
+        }
+        Letter::K => {
+            let is = I3K;
+            let js = J3K;
+            let ns = N3K;
+            const_sum(
+                x,
+                y,
+                Reach {
+                    up_i: 12,
+                    down_i: 2,
+                    up_j: 14,
+                    down_j: 12,
+                },
+                &is,
+                &js,
+                &ns,
+            )
+        }
+        Letter::L => {
+            let is = I3L;
+            let js = J3L;
+            let ns = N3L;
+            const_sum(
+                x,
+                y,
+                Reach {
+                    up_i: 14,
+                    down_i: 12,
+                    up_j: 36,
+                    down_j: 0,
+                },
+                &is[0..SUMMED_3L],
+                &js[0..SUMMED_3L],
+                &ns[0..SUMMED_3L],
+            )
+        }
+        Letter::M => {
+            let is = I3M;
+            let js = J3M;
+            let ns = N3M;
+            const_sum(
+                x,
+                y,
+                Reach {
+                    up_i: 28,
+                    down_i: 0,
+                    up_j: 36,
+                    down_j: 0,
+                },
+                &is,
+                &js,
+                &ns,
+            )
+        }
+        Letter::N => {
+            let is = I3N;
+            let js = J3N;
+            let ns = N3N;
+            const_sum(
+                x,
+                y,
+                Reach {
+                    up_i: 18,
+                    down_i: 0,
+                    up_j: 6,
+                    down_j: 12,
+                },
+                &is,
+                &js,
+                &ns,
+            )
+        }
+        Letter::O => {
+            let is = I3O;
+            let js = J3O;
+            let ns = N3O;
+            const_sum(
+                x,
+                y,
+                Reach {
+                    up_i: 24,
+                    down_i: 0,
+                    up_j: 0,
+                    down_j: 12,
+                },
+                &is,
+                &js,
+                &ns,
+            )
+        }
+        Letter::P => {
+            let is = I3P;
+            let js = J3P;
+            let ns = N3P;
+            const_sum(
+                x,
+                y,
+                Reach {
+                    up_i: 36,
+                    down_i: 0,
+                    up_j: 2,
+                    down_j: 12,
+                },
+                &is,
+                &js,
+                &ns,
+            )
+        }
+        Letter::Q => {
+            let is = I3Q;
+            let js = J3Q;
+            let ns = N3Q;
+            const_sum(
+                x,
+                y,
+                Reach {
+                    up_i: 1,
+                    down_i: 12,
+                    up_j: 12,
+                    down_j: 0,
+                },
+                &is,
+                &js,
+                &ns,
+            )
+        }
+        Letter::R => {
+            let is = I3R;
+            let js = J3R;
+            let ns = N3R;
+            const_sum(
+                x,
+                y,
+                Reach {
+                    up_i: 14,
+                    down_i: 8,
+                    up_j: 14,
+                    down_j: 12,
+                },
+                &is,
+                &js,
+                &ns,
+            )
+        }
+        Letter::S => {
+            let is = I3S;
+            let js = J3S;
+            let ns = N3S;
+            const_sum(
+                x,
+                y,
+                Reach {
+                    up_i: 14,
+                    down_i: 12,
+                    up_j: 36,
+                    down_j: 0,
+                },
+                &is,
+                &js,
+                &ns,
+            )
+        }
+        Letter::T => {
+            let is = I3T;
+            let js = J3T;
+            let ns = N3T;
+            const_sum(
+                x,
+                y,
+                Reach {
+                    up_i: 36,
+                    down_i: 0,
+                    up_j: 36,
+                    down_j: 0,
+                },
+                &is,
+                &js,
+                &ns,
+            )
+        }
+        Letter::U => {
+            let is = I3U;
+            let js = J3U;
+            let ns = N3U;
+            const_sum(
+                x,
+                y,
+                Reach {
+                    up_i: 14,
+                    down_i: 12,
+                    up_j: 14,
+                    down_j: 12,
+                },
+                &is,
+                &js,
+                &ns,
+            )
+        }
+        Letter::V => {
+            let is = I3V;
+            let js = J3V;
+            let ns = N3V;
+            const_sum(
+                x,
+                y,
+                Reach {
+                    up_i: 14,
+                    down_i: 10,
+                    up_j: 14,
+                    down_j: 12,
+                },
+                &is,
+                &js,
+                &ns,
+            )
+        }
+        Letter::W => {
+            let is = I3W;
+            let js = J3W;
+            let ns = N3W;
+            const_sum(
+                x,
+                y,
+                Reach {
+                    up_i: 10,
+                    down_i: 12,
+                    up_j: 14,
+                    down_j: 12,
+                },
+                &is,
+                &js,
+                &ns,
+            )
+        }
+        Letter::X => {
+            let is = I3X;
+            let js = J3X;
+            let ns = N3X;
+            const_sum(
+                x,
+                y,
+                Reach {
+                    up_i: 14,
+                    down_i: 8,
+                    up_j: 14,
+                    down_j: 12,
+                },
+                &is,
+                &js,
+                &ns,
+            )
+        }
+        Letter::Y => {
+            let is = I3Y;
+            let js = J3Y;
+            let ns = N3Y;
+            const_sum(
+                x,
+                y,
+                Reach {
+                    up_i: 12,
+                    down_i: 0,
+                    up_j: 8,
+                    down_j: 8,
+                },
+                &is,
+                &js,
+                &ns,
+            )
+        }
+        Letter::Z => {
+            let is = I3Z;
+            let js = J3Z;
+            let ns = N3Z;
+            const_sum(
+                x,
+                y,
+                Reach {
+                    up_i: 8,
+                    down_i: 8,
+                    up_j: 8,
+                    down_j: 8,
+                },
+                &is,
+                &js,
+                &ns,
+            )
+        }
+    }
 }
