@@ -1,5 +1,7 @@
 #!/usr/bin/env python3
-"""Writes crates/replay/stdout: what `replay` says of the stored lists where every answer agrees, from the lists' own counts."""
+"""Writes crates/replay/stdout: what `replay` says of the stored lists where every answer agrees, from the lists' own counts, and of the
+column run by document 01: columns of unequal length are refused with 7 and nothing is written, zero rows are accepted.
+"""
 from collections import Counter
 from pathlib import Path
 
@@ -14,4 +16,10 @@ def said(name):
     return "\n".join([name, *lines, f"rows {rows} differ 0 left {left}", ""])
 
 
-(REPLAY / "stdout").write_text(said("rules.bin") + said("rows.bin"))
+# Each of the five columns a row shorter and a row longer than the others. Four rows are written to three of the columns.
+LENDING = """columns of unequal length: calls 10 refused with 7 10 written 0
+columns of equal length: refusal 0 written 12
+zero rows: refusal 0 written 0
+"""
+
+(REPLAY / "stdout").write_text(said("rules.bin") + said("rows.bin") + LENDING)

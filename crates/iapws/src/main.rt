@@ -2,21 +2,9 @@
 use buffer::byte_at;
 use buffer::float_at;
 use buffer::int_at;
-use libc::STDOUT_FILENO;
-
-fn say(text: &[u8]) {
-    io::write_all(STDOUT_FILENO, text);
-}
-
-fn say_number(text: &[u8], n: u64) {
-    say(text);
-    io::print_decimal(STDOUT_FILENO, n);
-}
-
-// One more, up to the highest number.
-fn more(n: u64) -> u64 {
-    if n < u64::MAX { n + 1 } else { n }
-}
+use report::more;
+use report::say;
+use report::say_number;
 
 fn number_of(numbers: [f64; 10], which: u8) -> f64 {
     let k = which as usize;
@@ -73,13 +61,7 @@ fn lines(page: &[u8]) {
 }
 
 fn main() {
-    let fd = os::open_read(b"points.bin");
-    if fd < 0 {
-        say(b"not read\n");
-        return;
-    }
     let mut page = io::large_buffer();
-    let have = io::read_full(fd, &mut page);
-    libc::close(fd);
+    let have = report::load(b"points.bin", &mut page);
     lines(&page[..have]);
 }

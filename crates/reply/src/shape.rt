@@ -52,7 +52,7 @@ pub fn choice(c: Choice) -> Reply
     }
 }
 
-fn verdict_byte(v: Verdict) -> u8
+pub fn verdict_byte(v: Verdict) -> u8
     ensures { λ r. ⌜ r ≡ numberIn (verdict v) ⌝ }
 {
     match v {
