@@ -19,6 +19,8 @@ PHPS = [
     ('v3a_ps', 'ps2v_3a_reg3', 'v3a(p,s)'),
     ('v3b_ps', 'ps2v_3b_reg3', 'v3b(p,s)'),
 ]
+# as many arms as the prover takes in one function
+ARMS = 13
 HS = [('p3a_hs', 'hs2p3a_reg3', 'p3a(h,s)'), ('p3b_hs', 'hs2p3b_reg3', 'p3b(h,s)')]
 
 
@@ -94,7 +96,8 @@ def arm(kind, key, rows, summed):
     ui, di, uj, dj = reach(rows)
     part = f'[0..SUMMED_{name}]' if summed != len(rows) else ''
     lines = [f'{kind}::{variant} => {{', f'let is = I{name};', f'let js = J{name};', f'let ns = N{name};']
-    lines += [f'const_sum(x, y, Reach {{ up_i: {ui}, down_i: {di}, up_j: {uj}, down_j: {dj} }}, &is{part}, &js{part}, &ns{part})', '}']
+    lines += [f'fill(x, {ui}, {di}, &mut wi);', f'fill(y, {uj}, {dj}, &mut wj);']
+    lines += [f'gated(x, y, plain_sum(&wi, &wj, &is{part}, &js{part}, &ns{part}))', '}']
     return '\n'.join(lines) + '\n'
 
 
@@ -104,7 +107,7 @@ def write(path, text):
         f.write(text)
 
 
-def crate(name, document, tables, function, of, whose, rule, rule_use, kind_use):
+def crate(name, document, tables, called, of, whose, rule, rule_use, kind_use):
     """tables: key, what the document calls it, rows, how many of them are summed"""
     specs = {key: ('table' + key if key[0] == '3' else 'table-' + key.replace('_', '-')) for key, _, _, _ in tables}
     short = any(key == '3z' for key in specs)
@@ -134,26 +137,42 @@ less14 digits e = scaled true digits 14 e
 '''
     text += '\n'.join(spec_table(specs[key], what, rows) for key, what, rows, _ in tables)
     write(f'crates/{name}/specs/Printed.antt', text)
-    uses = sorted(['use algo::Reach;', 'use algo::const_sum;', kind_use], key=lambda u: (not u.startswith('use crate'), u))
+    dec = 'ghost use lib.Dec.{T};\n' if len(tables) > ARMS else ''
+    uses = sorted(['use algo::fill;', 'use algo::gated;', 'use algo::plain_sum;', kind_use], key=lambda u: (not u.startswith('use crate'), u))
     code = f'''// The tables of {document} by column, and the sum of each. specs/Printed.antt has their rows as printed.
 {chr(10).join(uses)}
 ghost use mathlib.Core.Path.{{_≡_}};
-ghost use Rattle.common.specs.Outcome.{{orNan}};
+{dec}ghost use Rattle.common.specs.Outcome.{{orNan}};
 ghost use Rattle.algo.specs.Table.{{sumRule, term}};
 ghost use Rattle.{name}.specs.{rule_use};
 
 '''
     code += '\n'.join(columns(key, what, rows, n) for key, what, rows, n in tables)
-    code += f'''
-// The sum of n * x^I * y^J over the rows of {whose} table, or a NaN where it is refused. A constant that is lent is built where its function
-// starts, and one that is bound where it is bound: so each arm binds its own.
-pub fn {function}({of}, x: f64, y: f64) -> f64
-    ensures {{ λ r. ⌜ r ≡ orNan (sumRule term x y ({rule})) ⌝ }}
+    def arms(part):
+        return ''.join(arm(of.split(': ')[1], key, rows, n) for key, _, rows, n in part)
+
+    def function(start, name, asks, part, last):
+        return f'''
+{start}
+{name}({of}, x: f64, y: f64) -> f64
+{asks}    ensures {{ λ r. ⌜ r ≡ orNan (sumRule term x y ({rule})) ⌝ }}
 {{
+    let mut wi = [0.0; 129];
+    let mut wj = [0.0; 129];
     match {of[0]} {{
-{''.join(arm(of.split(': ')[1], key, rows, n) for key, _, rows, n in tables)}    }}
+{arms(part)}{last}    }}
 }}
 '''
+
+    said = f'''// The sum of n * x^I * y^J over the rows of {whose} table, or a NaN where it is refused. Each arm binds its own columns: a constant
+// that is lent is built where its function starts, for every arm.'''
+    half = len(tables)
+    last = ''
+    if half > ARMS:
+        half //= 2
+        last = f'_ => later_sum({of[0]}, x, y),\n'
+        code += function('// The same for the letters from n on.', 'fn later_sum', f'    requires {{ ⌜ T (late {of[0]}) ⌝ }}\n', tables[half:], '_ => 0.0,\n')
+    code += function(said, f'pub fn {called}', '', tables[:half], last)
     write(f'crates/{name}/src/columns.rt', code)
 
 
@@ -168,7 +187,7 @@ def main(rust):
     letters = of(read('region3_v_subregion_pT.rs'), VOLUME)
     # the Rust's steps of letter l end at 42 of 43 rows
     letters = [(key, what, rows, 42 if key == '3l' else n) for key, what, rows, n in letters]
-    crate('tables', 'S05rev', letters, 'letter_sum', 'l: Letter', "a letter's", 'summed l', 'Summed.{summed}', 'use letter::Letter;')
+    crate('tables', 'S05rev', letters, 'letter_sum', 'l: Letter', "a letter's", 'summed l', 'Summed.{summed, late}', 'use letter::Letter;')
     equations = of(read('region3_Tv_phps.rs'), PHPS) + of(read('region3_p_hs.rs'), HS)
     crate(
         'backward', 'S03rev and S04rev', equations, 'sum', 'e: Equation', "an equation's", 'tableOf e', 'Equation.{tableOf}', 'use crate::Equation;'

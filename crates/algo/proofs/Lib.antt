@@ -6,4 +6,5 @@ pub mod Whole
 pub mod Farthest
 pub mod Refusals
 pub mod Settled
+pub mod Constant
 pub mod Unique

@@ -17,15 +17,11 @@ use mir.Val.{toZ, ofZ}
 use mir.ValLaws.{toZ-ofZ}
 use Rattle.common.specs.Sum.{rawTotal, every}
 use Rattle.common.proofs.Sums.{both-left, both-right}
-use Rattle.algo.specs.Table.{Row, row, rowsOf}
+use Rattle.algo.specs.Table.{Row, row, rowsOf, rowsFrom}
 
 -- the row at k
 abbrev pub rowAt : List ℤ → List ℤ → List Float → ℕ → Row
 rowAt is js ns k = row (getD is k (pos 0)) (getD js k (pos 0)) (getD ns k nan)
-
--- the rows from k on
-abbrev pub rowsFrom : List ℤ → List ℤ → List Float → ℕ → List Row
-rowsFrom is js ns k = rowsOf (drop k is) (drop k js) (drop k ns)
 
 -- columns of which each has a k-th entry
 pub record Within (is js : List ℤ) (ns : List Float) (k : ℕ) : Type 0 where

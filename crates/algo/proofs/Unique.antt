@@ -1,6 +1,20 @@
 -- Each contract admits one answer. The theorems are about the contracts' own readings, `Reads.Post`, and not about a copy of them.
 -- Assumes nothing.
 use mathlib.Core.Path.{_≡_, refl, sym, ap, _∙_}
+use Prim.Native.Nat.{ℕ, _+_, _-_, _<_, _≤_}
+use lib.Dec.{T}
+use lib.ListN.{length, getD}
+use lib.Ieee.{Float, nan}
+use denote.Ref.{now}
+use denote.Triple.Clauses.{AtExit}
+use contract.Lifetimes.{Lfts}
+use borrow.Fn.Kinds.{Dens, endedOf, resT}
+use Rattle.common.specs.Sum.{every}
+use Rattle.algo.specs.Table.{rowsOf}
+use Rattle.algo.specs.Dense.{Stocked}
+use Rattle.algo.specs.Reach.{covers}
+use Rattle.algo.specs.declared.Reach.{Reach}
+use Rattle.algo.specs.declared.Order.the-variants.{Zero}
 use Rattle.common.specs.Outcome.{Outcome, value, refused}
 use Rattle.common.proofs.Same.{One, same, same-answer, kindOf, kind-number}
 use Rattle.algo.specs.Joint.{pairPaper, fourPaper}
@@ -10,14 +24,18 @@ use Rattle.algo.specs.declared.PairAnswer.{PairAnswer}
 use Rattle.algo.specs.declared.PairAnswer.the-variants as pairs
 use Rattle.algo.specs.declared.FourAnswer.{FourAnswer}
 use Rattle.algo.specs.declared.FourAnswer.the-variants as fours
-use Rattle.algo.proofs.tables.const_sum.Kinds as const-sum-kinds
-use Rattle.algo.proofs.tables.const_sum.Reads as const-sum
-use Rattle.algo.proofs.tables.const_slope.Kinds as const-slope-kinds
-use Rattle.algo.proofs.tables.const_slope.Reads as const-slope
-use Rattle.algo.proofs.tables.const_pair.Kinds as const-pair-kinds
-use Rattle.algo.proofs.tables.const_pair.Reads as const-pair
-use Rattle.algo.proofs.tables.const_four.Kinds as const-four-kinds
-use Rattle.algo.proofs.tables.const_four.Reads as const-four
+use Rattle.algo.proofs.powers.fill.Kinds as fill-kinds
+use Rattle.algo.proofs.powers.fill.Reads as fill
+use Rattle.algo.proofs.items.plain_sum.Kinds as plain-sum-kinds
+use Rattle.algo.proofs.items.plain_sum.Reads as plain-sum
+use Rattle.algo.proofs.known.gated.Kinds as gated-kinds
+use Rattle.algo.proofs.known.gated.Reads as gated
+use Rattle.algo.proofs.known.const_slope.Kinds as const-slope-kinds
+use Rattle.algo.proofs.known.const_slope.Reads as const-slope
+use Rattle.algo.proofs.known.const_pair.Kinds as const-pair-kinds
+use Rattle.algo.proofs.known.const_pair.Reads as const-pair
+use Rattle.algo.proofs.known.const_four.Kinds as const-four-kinds
+use Rattle.algo.proofs.known.const_four.Reads as const-four
 use Rattle.algo.proofs.polynomial.poly_powi.Kinds as poly-powi-kinds
 use Rattle.algo.proofs.polynomial.poly_powi.Reads as poly-powi
 use Rattle.algo.proofs.polynomial.poly_i_powi.Kinds as poly-i-powi-kinds
@@ -65,8 +83,21 @@ four-back (fours.Refused k) = ap fours.Refused (kind-number k)
 pub same-four : (o : Outcome Four) (r s : FourAnswer) → fourPaper r ≡ o → fourPaper s ≡ o → r ≡ s
 same-four = same fourPaper fourOf four-back
 
-pub const-sum-one : One 3 const-sum-kinds.ps const-sum-kinds.r const-sum.Post
-const-sum-one κs a e x y p q = p ∙ sym q
+-- the powers that are asked for are in the table, each the same; the rest of it is no one's
+pub fill-one : (κs : Lfts 1) (a : Dens κs fill-kinds.ps) (d e : AtExit (endedOf 1 fill-kinds.ps fill-kinds.r) κs) (x y : resT fill-kinds.r κs .Denot) →
+    fill.Post κs a x d → fill.Post κs a y e →
+    length (now (a .1 .1 .1 .0)) ≡ 129 → (k : ℕ) → 64 - a .1 .1 .0 ≤ k → k < 65 + a .1 .0 → getD (now (d .1 .1 .1 .0)) k nan ≡ getD (now (e .1 .1 .1 .0)) k nan
+fill-one κs a d e x y p q h k lo hi = p h .at k lo hi ∙ sym (q h .at k lo hi)
+
+-- of two tables that have the powers of two bases as far as the rows go
+pub plain-sum-one : (κs : Lfts 5) (a : Dens κs plain-sum-kinds.ps) (e : AtExit (endedOf 5 plain-sum-kinds.ps plain-sum-kinds.r) κs) (x y : resT plain-sum-kinds.r κs .Denot) →
+    plain-sum.Post κs a x e → plain-sum.Post κs a y e →
+    (vi vj : Float) (r : Reach) → Stocked vi vj (now (a .0)) (now (a .1 .0)) r
+    → T (every (covers Zero Zero r) (rowsOf (now (a .1 .1 .0)) (now (a .1 .1 .1 .0)) (now (a .1 .1 .1 .1 .0)))) → x ≡ y
+plain-sum-one κs a e x y p q vi vj r s t = p vi vj r s t ∙ sym (q vi vj r s t)
+
+pub gated-one : One 0 gated-kinds.ps gated-kinds.r gated.Post
+gated-one κs a e x y p q = p ∙ sym q
 
 pub const-slope-one : One 3 const-slope-kinds.ps const-slope-kinds.r const-slope.Post
 const-slope-one κs a e x y p q = p ∙ sym q

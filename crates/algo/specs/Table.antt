@@ -1,9 +1,10 @@
 -- The sums over a table of rows I, J, n, in table order, each step checked: algo/polynomial.rs and algo/polynomial_steps.rs.
 -- Assumes nothing: these are definitions.
+use Prim.Native.Nat.{ℕ}
 use mathlib.Core.List.{List, [], _∷_}
 use lib.Dec.{eqb}
 use lib.IntN.{ℤ, pos, _-ℤ_, _*ℤ_}
-use lib.ListN.{length}
+use lib.ListN.{length, drop}
 use lib.Ieee.{Float, binary64, mul, ofInt}
 use Rattle.common.specs.Outcome.{Outcome, value, refused, check, then, inside, pick, zeroF}
 use Rattle.common.specs.Sum.{total}
@@ -20,6 +21,10 @@ rowsOf [] js ns = []
 rowsOf (i ∷ is) [] ns = []
 rowsOf (i ∷ is) (j ∷ js) [] = []
 rowsOf (i ∷ is) (j ∷ js) (n ∷ ns) = row i j n ∷ rowsOf is js ns
+
+-- the rows from k on
+abbrev pub rowsFrom : List ℤ → List ℤ → List Float → ℕ → List Row
+rowsFrom is js ns k = rowsOf (drop k is) (drop k js) (drop k ns)
 
 -- ---- a term
 

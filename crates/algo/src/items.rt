@@ -2,6 +2,7 @@
 use crate::Order;
 use crate::Pair;
 use crate::Share;
+use crate::powers::least;
 use crate::powers::over;
 use crate::powers::place;
 ghost use mathlib.Core.Path.{_≡_};
@@ -12,7 +13,7 @@ ghost use lib.ListN.{length};
 ghost use lib.Ieee.{Float};
 ghost use Rattle.common.specs.Outcome.{zeroF};
 ghost use Rattle.common.specs.Sum.{rawTotal, every};
-ghost use Rattle.algo.specs.Table.{row, rowsOf, left};
+ghost use Rattle.algo.specs.Table.{row, rowsOf, rowsFrom, left};
 ghost use Rattle.algo.specs.Raw.{rawFactor, rawDerived, rawWeigh, rawShared, rawDivided};
 ghost use Rattle.algo.specs.Dense.{Filled, Stocked};
 ghost use Rattle.algo.specs.Reach.{spans, covers, widest};
@@ -82,6 +83,34 @@ pub fn divide(s: Share, vi: f64, vj: f64, x: f64) -> f64
     }
 }
 
+// The rows from `start` to below `end`, added to a sum.
+fn part_at(
+    a: Order,
+    b: Order,
+    before: f64,
+    start: usize,
+    end: usize,
+    wi: &[f64; 129],
+    wj: &[f64; 129],
+    is: &[i32],
+    js: &[i32],
+    ns: &[f64],
+) -> f64
+    requires { ⌜ (length (now is) ≡ length (now ns)) × (length (now js) ≡ length (now ns)) × (start ≤ end) × (end ≤ length (now ns)) × T (every (covers a b widest) (rowsOf (now is) (now js) (now ns))) ⌝ }
+    ensures { λ x. ⌜ ((vi vj : Float) (r : Reach) → Stocked vi vj (now (wi .entry)) (now (wj .entry)) r
+        → T (every (covers a b r) (rowsOf (now (is .entry)) (now (js .entry)) (now (ns .entry))))
+        → rawTotal (rawDerived a b vi vj) before (rowsFrom (now (is .entry)) (now (js .entry)) (now (ns .entry)) start)
+        ≡ rawTotal (rawDerived a b vi vj) x (rowsFrom (now (is .entry)) (now (js .entry)) (now (ns .entry)) end)) ⌝ }
+{
+    let mut sum = before;
+    let mut k = start;
+    while k < end {
+        sum += item_at(a, b, wi, wj, is[k], js[k], ns[k]);
+        k += 1;
+    }
+    sum
+}
+
 pub fn sum_at(
     a: Order,
     b: Order,
@@ -96,13 +125,34 @@ pub fn sum_at(
         → T (every (covers a b r) (rowsOf (now (is .entry)) (now (js .entry)) (now (ns .entry))))
         → x ≡ rawTotal (rawDerived a b vi vj) zeroF (rowsOf (now (is .entry)) (now (js .entry)) (now (ns .entry)))) ⌝ }
 {
-    let mut sum = 0.0;
-    let mut k = 0;
-    while k < ns.len() {
-        sum += item_at(a, b, wi, wj, is[k], js[k], ns[k]);
-        k += 1;
-    }
-    sum
+    part_at(a, b, 0.0, 0, ns.len(), wi, wj, is, js, ns)
+}
+
+// The sum that nothing is derived in, in three parts, each so short that a compiler writes its rows out where the table is a constant, and
+// works no powers but those they name. 45 rows and more go by too; only the last part is no longer short then.
+pub fn plain_sum(wi: &[f64; 129], wj: &[f64; 129], is: &[i32], js: &[i32], ns: &[f64]) -> f64
+    requires { ⌜ (length (now is) ≡ length (now ns)) × (length (now js) ≡ length (now ns)) × T (every (covers Order.Zero Order.Zero widest) (rowsOf (now is) (now js) (now ns))) ⌝ }
+    ensures { λ x. ⌜ ((vi vj : Float) (r : Reach) → Stocked vi vj (now (wi .entry)) (now (wj .entry)) r
+        → T (every (covers Order.Zero Order.Zero r) (rowsOf (now (is .entry)) (now (js .entry)) (now (ns .entry))))
+        → x ≡ rawTotal (rawDerived Order.Zero Order.Zero vi vj) zeroF (rowsOf (now (is .entry)) (now (js .entry)) (now (ns .entry)))) ⌝ }
+{
+    let n = ns.len();
+    let first = least(n, 15);
+    let second = least(n, 30);
+    let one = part_at(Order::Zero, Order::Zero, 0.0, 0, first, wi, wj, is, js, ns);
+    let two = part_at(
+        Order::Zero,
+        Order::Zero,
+        one,
+        first,
+        second,
+        wi,
+        wj,
+        is,
+        js,
+        ns,
+    );
+    part_at(Order::Zero, Order::Zero, two, second, n, wi, wj, is, js, ns)
 }
 
 // Two sums of one item.

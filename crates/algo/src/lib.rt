@@ -1,13 +1,18 @@
 // The sums over the rows I, J, n of a table, in table order: algo/polynomial.rs and algo/polynomial_steps.rs.
 // A table is lent by its columns. `powers` has the powers of a base, `columns` how far a table's exponents go, `items` a row's part in
-// a sum, `tables` the raw sums and `polynomial` the calls with the Rust's names, which are total.
+// a sum, `known` the raw sums of a table whose reach is known and `polynomial` the calls with the Rust's names, which are total.
 mod columns;
 mod items;
+mod known;
 mod polynomial;
 mod powers;
-mod tables;
 
 use common::Refusal;
+pub use items::plain_sum;
+pub use known::const_four;
+pub use known::const_pair;
+pub use known::const_slope;
+pub use known::gated;
 pub use polynomial::poly_i_powi;
 pub use polynomial::poly_ii_powi;
 pub use polynomial::poly_ij_powi;
@@ -19,10 +24,7 @@ pub use polynomial::polys_i_ii_ij_jj_powi;
 pub use polynomial::polys_i_ii_powi;
 pub use polynomial::polys_i_ij_powi;
 pub use polynomial::polys_i_j_powi;
-pub use tables::const_four;
-pub use tables::const_pair;
-pub use tables::const_slope;
-pub use tables::const_sum;
+pub use powers::fill;
 
 // How often a power of a table's term is derived by its base.
 pub enum Order {

@@ -29,7 +29,7 @@ fn double(half: usize, count: usize, sq: f64, w: &mut [f64; 129])
     }
 }
 
-fn least(a: usize, b: usize) -> usize
+pub fn least(a: usize, b: usize) -> usize
     ensures { λ r. ⌜ r ≡ a - (a - b) ⌝ }
 {
     if b < a { b } else { a }
@@ -77,7 +77,7 @@ fn fill_down(low: u32, w: &mut [f64; 129])
 }
 
 // The powers from -down to up.
-fn fill(a: f64, up: u32, down: u32, w: &mut [f64; 129])
+pub fn fill(a: f64, up: u32, down: u32, w: &mut [f64; 129])
     requires { ⌜ (up ≤ 64) × (down ≤ 64) ⌝ }
     ensures { λ _. ⌜ (length (now (w .entry)) ≡ 129 → Filled a (now (w .exit)) (64 - down) (65 + up)) ⌝ }
 {

@@ -1,7 +1,8 @@
 // The tables of S03rev and S04rev by column, and the sum of each. specs/Printed.antt has their rows as printed.
 use crate::Equation;
-use algo::Reach;
-use algo::const_sum;
+use algo::fill;
+use algo::gated;
+use algo::plain_sum;
 ghost use mathlib.Core.Path.{_≡_};
 ghost use Rattle.common.specs.Outcome.{orNan};
 ghost use Rattle.algo.specs.Table.{sumRule, term};
@@ -1049,191 +1050,93 @@ const NP3B_HS: [f64; 35] = [
     0.568795808129714e10,
 ];
 
-// The sum of n * x^I * y^J over the rows of an equation's table, or a NaN where it is refused. A constant that is lent is built where its function
-// starts, and one that is bound where it is bound: so each arm binds its own.
+// The sum of n * x^I * y^J over the rows of an equation's table, or a NaN where it is refused. Each arm binds its own columns: a constant
+// that is lent is built where its function starts, for every arm.
 pub fn sum(e: Equation, x: f64, y: f64) -> f64
     ensures { λ r. ⌜ r ≡ orNan (sumRule term x y (tableOf e)) ⌝ }
 {
+    let mut wi = [0.0; 129];
+    let mut wj = [0.0; 129];
     match e {
         Equation::T3aPh => {
             let is = IT3A_PH;
             let js = JT3A_PH;
             let ns = NT3A_PH;
-            const_sum(
-                x,
-                y,
-                Reach {
-                    up_i: 12,
-                    down_i: 12,
-                    up_j: 22,
-                    down_j: 0,
-                },
-                &is,
-                &js,
-                &ns,
-            )
+            fill(x, 12, 12, &mut wi);
+            fill(y, 22, 0, &mut wj);
+            gated(x, y, plain_sum(&wi, &wj, &is, &js, &ns))
         }
         Equation::T3bPh => {
             let is = IT3B_PH;
             let js = JT3B_PH;
             let ns = NT3B_PH;
-            const_sum(
-                x,
-                y,
-                Reach {
-                    up_i: 8,
-                    down_i: 12,
-                    up_j: 16,
-                    down_j: 0,
-                },
-                &is,
-                &js,
-                &ns,
-            )
+            fill(x, 8, 12, &mut wi);
+            fill(y, 16, 0, &mut wj);
+            gated(x, y, plain_sum(&wi, &wj, &is, &js, &ns))
         }
         Equation::V3aPh => {
             let is = IV3A_PH;
             let js = JV3A_PH;
             let ns = NV3A_PH;
-            const_sum(
-                x,
-                y,
-                Reach {
-                    up_i: 8,
-                    down_i: 12,
-                    up_j: 22,
-                    down_j: 0,
-                },
-                &is,
-                &js,
-                &ns,
-            )
+            fill(x, 8, 12, &mut wi);
+            fill(y, 22, 0, &mut wj);
+            gated(x, y, plain_sum(&wi, &wj, &is, &js, &ns))
         }
         Equation::V3bPh => {
             let is = IV3B_PH;
             let js = JV3B_PH;
             let ns = NV3B_PH;
-            const_sum(
-                x,
-                y,
-                Reach {
-                    up_i: 2,
-                    down_i: 12,
-                    up_j: 10,
-                    down_j: 0,
-                },
-                &is,
-                &js,
-                &ns,
-            )
+            fill(x, 2, 12, &mut wi);
+            fill(y, 10, 0, &mut wj);
+            gated(x, y, plain_sum(&wi, &wj, &is, &js, &ns))
         }
         Equation::T3aPs => {
             let is = IT3A_PS;
             let js = JT3A_PS;
             let ns = NT3A_PS;
-            const_sum(
-                x,
-                y,
-                Reach {
-                    up_i: 10,
-                    down_i: 12,
-                    up_j: 36,
-                    down_j: 0,
-                },
-                &is,
-                &js,
-                &ns,
-            )
+            fill(x, 10, 12, &mut wi);
+            fill(y, 36, 0, &mut wj);
+            gated(x, y, plain_sum(&wi, &wj, &is, &js, &ns))
         }
         Equation::T3bPs => {
             let is = IT3B_PS;
             let js = JT3B_PS;
             let ns = NT3B_PS;
-            const_sum(
-                x,
-                y,
-                Reach {
-                    up_i: 14,
-                    down_i: 12,
-                    up_j: 24,
-                    down_j: 0,
-                },
-                &is,
-                &js,
-                &ns,
-            )
+            fill(x, 14, 12, &mut wi);
+            fill(y, 24, 0, &mut wj);
+            gated(x, y, plain_sum(&wi, &wj, &is, &js, &ns))
         }
         Equation::V3aPs => {
             let is = IV3A_PS;
             let js = JV3A_PS;
             let ns = NV3A_PS;
-            const_sum(
-                x,
-                y,
-                Reach {
-                    up_i: 6,
-                    down_i: 12,
-                    up_j: 28,
-                    down_j: 0,
-                },
-                &is,
-                &js,
-                &ns,
-            )
+            fill(x, 6, 12, &mut wi);
+            fill(y, 28, 0, &mut wj);
+            gated(x, y, plain_sum(&wi, &wj, &is, &js, &ns))
         }
         Equation::V3bPs => {
             let is = IV3B_PS;
             let js = JV3B_PS;
             let ns = NV3B_PS;
-            const_sum(
-                x,
-                y,
-                Reach {
-                    up_i: 2,
-                    down_i: 12,
-                    up_j: 12,
-                    down_j: 0,
-                },
-                &is,
-                &js,
-                &ns,
-            )
+            fill(x, 2, 12, &mut wi);
+            fill(y, 12, 0, &mut wj);
+            gated(x, y, plain_sum(&wi, &wj, &is, &js, &ns))
         }
         Equation::P3aHs => {
             let is = IP3A_HS;
             let js = JP3A_HS;
             let ns = NP3A_HS;
-            const_sum(
-                x,
-                y,
-                Reach {
-                    up_i: 32,
-                    down_i: 0,
-                    up_j: 36,
-                    down_j: 0,
-                },
-                &is,
-                &js,
-                &ns,
-            )
+            fill(x, 32, 0, &mut wi);
+            fill(y, 36, 0, &mut wj);
+            gated(x, y, plain_sum(&wi, &wj, &is, &js, &ns))
         }
         Equation::P3bHs => {
             let is = IP3B_HS;
             let js = JP3B_HS;
             let ns = NP3B_HS;
-            const_sum(
-                x,
-                y,
-                Reach {
-                    up_i: 14,
-                    down_i: 12,
-                    up_j: 20,
-                    down_j: 0,
-                },
-                &is,
-                &js,
-                &ns,
-            )
+            fill(x, 14, 12, &mut wi);
+            fill(y, 20, 0, &mut wj);
+            gated(x, y, plain_sum(&wi, &wj, &is, &js, &ns))
         }
     }
 }

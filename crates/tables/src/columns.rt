@@ -1,11 +1,13 @@
 // The tables of S05rev by column, and the sum of each. specs/Printed.antt has their rows as printed.
-use algo::Reach;
-use algo::const_sum;
+use algo::fill;
+use algo::gated;
+use algo::plain_sum;
 use letter::Letter;
 ghost use mathlib.Core.Path.{_≡_};
+ghost use lib.Dec.{T};
 ghost use Rattle.common.specs.Outcome.{orNan};
 ghost use Rattle.algo.specs.Table.{sumRule, term};
-ghost use Rattle.tables.specs.Summed.{summed};
+ghost use Rattle.tables.specs.Summed.{summed, late};
 
 // v3a(p,T)
 const I3A: [i32; 30] = [
@@ -2814,479 +2816,244 @@ const N3Z: [f64; 23] = [
     3.9453604949707e6,
 ];
 
-// The sum of n * x^I * y^J over the rows of a letter's table, or a NaN where it is refused. A constant that is lent is built where its function
-// starts, and one that is bound where it is bound: so each arm binds its own.
+// The same for the letters from n on.
+fn later_sum(l: Letter, x: f64, y: f64) -> f64
+    requires { ⌜ T (late l) ⌝ }
+    ensures { λ r. ⌜ r ≡ orNan (sumRule term x y (summed l)) ⌝ }
+{
+    let mut wi = [0.0; 129];
+    let mut wj = [0.0; 129];
+    match l {
+        Letter::N => {
+            let is = I3N;
+            let js = J3N;
+            let ns = N3N;
+            fill(x, 18, 0, &mut wi);
+            fill(y, 6, 12, &mut wj);
+            gated(x, y, plain_sum(&wi, &wj, &is, &js, &ns))
+        }
+        Letter::O => {
+            let is = I3O;
+            let js = J3O;
+            let ns = N3O;
+            fill(x, 24, 0, &mut wi);
+            fill(y, 0, 12, &mut wj);
+            gated(x, y, plain_sum(&wi, &wj, &is, &js, &ns))
+        }
+        Letter::P => {
+            let is = I3P;
+            let js = J3P;
+            let ns = N3P;
+            fill(x, 36, 0, &mut wi);
+            fill(y, 2, 12, &mut wj);
+            gated(x, y, plain_sum(&wi, &wj, &is, &js, &ns))
+        }
+        Letter::Q => {
+            let is = I3Q;
+            let js = J3Q;
+            let ns = N3Q;
+            fill(x, 1, 12, &mut wi);
+            fill(y, 12, 0, &mut wj);
+            gated(x, y, plain_sum(&wi, &wj, &is, &js, &ns))
+        }
+        Letter::R => {
+            let is = I3R;
+            let js = J3R;
+            let ns = N3R;
+            fill(x, 14, 8, &mut wi);
+            fill(y, 14, 12, &mut wj);
+            gated(x, y, plain_sum(&wi, &wj, &is, &js, &ns))
+        }
+        Letter::S => {
+            let is = I3S;
+            let js = J3S;
+            let ns = N3S;
+            fill(x, 14, 12, &mut wi);
+            fill(y, 36, 0, &mut wj);
+            gated(x, y, plain_sum(&wi, &wj, &is, &js, &ns))
+        }
+        Letter::T => {
+            let is = I3T;
+            let js = J3T;
+            let ns = N3T;
+            fill(x, 36, 0, &mut wi);
+            fill(y, 36, 0, &mut wj);
+            gated(x, y, plain_sum(&wi, &wj, &is, &js, &ns))
+        }
+        Letter::U => {
+            let is = I3U;
+            let js = J3U;
+            let ns = N3U;
+            fill(x, 14, 12, &mut wi);
+            fill(y, 14, 12, &mut wj);
+            gated(x, y, plain_sum(&wi, &wj, &is, &js, &ns))
+        }
+        Letter::V => {
+            let is = I3V;
+            let js = J3V;
+            let ns = N3V;
+            fill(x, 14, 10, &mut wi);
+            fill(y, 14, 12, &mut wj);
+            gated(x, y, plain_sum(&wi, &wj, &is, &js, &ns))
+        }
+        Letter::W => {
+            let is = I3W;
+            let js = J3W;
+            let ns = N3W;
+            fill(x, 10, 12, &mut wi);
+            fill(y, 14, 12, &mut wj);
+            gated(x, y, plain_sum(&wi, &wj, &is, &js, &ns))
+        }
+        Letter::X => {
+            let is = I3X;
+            let js = J3X;
+            let ns = N3X;
+            fill(x, 14, 8, &mut wi);
+            fill(y, 14, 12, &mut wj);
+            gated(x, y, plain_sum(&wi, &wj, &is, &js, &ns))
+        }
+        Letter::Y => {
+            let is = I3Y;
+            let js = J3Y;
+            let ns = N3Y;
+            fill(x, 12, 0, &mut wi);
+            fill(y, 8, 8, &mut wj);
+            gated(x, y, plain_sum(&wi, &wj, &is, &js, &ns))
+        }
+        Letter::Z => {
+            let is = I3Z;
+            let js = J3Z;
+            let ns = N3Z;
+            fill(x, 8, 8, &mut wi);
+            fill(y, 8, 8, &mut wj);
+            gated(x, y, plain_sum(&wi, &wj, &is, &js, &ns))
+        }
+        _ => 0.0,
+    }
+}
+
+// The sum of n * x^I * y^J over the rows of a letter's table, or a NaN where it is refused. Each arm binds its own columns: a constant
+// that is lent is built where its function starts, for every arm.
 pub fn letter_sum(l: Letter, x: f64, y: f64) -> f64
     ensures { λ r. ⌜ r ≡ orNan (sumRule term x y (summed l)) ⌝ }
 {
+    let mut wi = [0.0; 129];
+    let mut wj = [0.0; 129];
     match l {
         Letter::A => {
             let is = I3A;
             let js = J3A;
             let ns = N3A;
-            const_sum(
-                x,
-                y,
-                Reach {
-                    up_i: 2,
-                    down_i: 12,
-                    up_j: 12,
-                    down_j: 0,
-                },
-                &is,
-                &js,
-                &ns,
-            )
+            fill(x, 2, 12, &mut wi);
+            fill(y, 12, 0, &mut wj);
+            gated(x, y, plain_sum(&wi, &wj, &is, &js, &ns))
         }
         Letter::B => {
             let is = I3B;
             let js = J3B;
             let ns = N3B;
-            const_sum(
-                x,
-                y,
-                Reach {
-                    up_i: 4,
-                    down_i: 12,
-                    up_j: 14,
-                    down_j: 0,
-                },
-                &is,
-                &js,
-                &ns,
-            )
+            fill(x, 4, 12, &mut wi);
+            fill(y, 14, 0, &mut wj);
+            gated(x, y, plain_sum(&wi, &wj, &is, &js, &ns))
         }
         Letter::C => {
             let is = I3C;
             let js = J3C;
             let ns = N3C;
-            const_sum(
-                x,
-                y,
-                Reach {
-                    up_i: 8,
-                    down_i: 12,
-                    up_j: 10,
-                    down_j: 0,
-                },
-                &is,
-                &js,
-                &ns,
-            )
+            fill(x, 8, 12, &mut wi);
+            fill(y, 10, 0, &mut wj);
+            gated(x, y, plain_sum(&wi, &wj, &is, &js, &ns))
         }
         Letter::D => {
             let is = I3D;
             let js = J3D;
             let ns = N3D;
-            const_sum(
-                x,
-                y,
-                Reach {
-                    up_i: 3,
-                    down_i: 12,
-                    up_j: 16,
-                    down_j: 0,
-                },
-                &is,
-                &js,
-                &ns,
-            )
+            fill(x, 3, 12, &mut wi);
+            fill(y, 16, 0, &mut wj);
+            gated(x, y, plain_sum(&wi, &wj, &is, &js, &ns))
         }
         Letter::E => {
             let is = I3E;
             let js = J3E;
             let ns = N3E;
-            const_sum(
-                x,
-                y,
-                Reach {
-                    up_i: 2,
-                    down_i: 12,
-                    up_j: 16,
-                    down_j: 0,
-                },
-                &is,
-                &js,
-                &ns,
-            )
+            fill(x, 2, 12, &mut wi);
+            fill(y, 16, 0, &mut wj);
+            gated(x, y, plain_sum(&wi, &wj, &is, &js, &ns))
         }
         Letter::F => {
             let is = I3F;
             let js = J3F;
             let ns = N3F;
-            const_sum(
-                x,
-                y,
-                Reach {
-                    up_i: 32,
-                    down_i: 0,
-                    up_j: 3,
-                    down_j: 12,
-                },
-                &is,
-                &js,
-                &ns,
-            )
+            fill(x, 32, 0, &mut wi);
+            fill(y, 3, 12, &mut wj);
+            gated(x, y, plain_sum(&wi, &wj, &is, &js, &ns))
         }
         Letter::G => {
             let is = I3G;
             let js = J3G;
             let ns = N3G;
-            const_sum(
-                x,
-                y,
-                Reach {
-                    up_i: 10,
-                    down_i: 12,
-                    up_j: 24,
-                    down_j: 0,
-                },
-                &is,
-                &js,
-                &ns,
-            )
+            fill(x, 10, 12, &mut wi);
+            fill(y, 24, 0, &mut wj);
+            gated(x, y, plain_sum(&wi, &wj, &is, &js, &ns))
         }
         Letter::H => {
             let is = I3H;
             let js = J3H;
             let ns = N3H;
-            const_sum(
-                x,
-                y,
-                Reach {
-                    up_i: 1,
-                    down_i: 12,
-                    up_j: 16,
-                    down_j: 0,
-                },
-                &is,
-                &js,
-                &ns,
-            )
+            fill(x, 1, 12, &mut wi);
+            fill(y, 16, 0, &mut wj);
+            gated(x, y, plain_sum(&wi, &wj, &is, &js, &ns))
         }
         Letter::I => {
             let is = I3I;
             let js = J3I;
             let ns = N3I;
-            const_sum(
-                x,
-                y,
-                Reach {
-                    up_i: 36,
-                    down_i: 0,
-                    up_j: 12,
-                    down_j: 12,
-                },
-                &is,
-                &js,
-                &ns,
-            )
+            fill(x, 36, 0, &mut wi);
+            fill(y, 12, 12, &mut wj);
+            gated(x, y, plain_sum(&wi, &wj, &is, &js, &ns))
         }
         Letter::J => {
             let is = I3J;
             let js = J3J;
             let ns = N3J;
-            const_sum(
-                x,
-                y,
-                Reach {
-                    up_i: 28,
-                    down_i: 0,
-                    up_j: 3,
-                    down_j: 12,
-                },
-                &is,
-                &js,
-                &ns,
-            )
+            fill(x, 28, 0, &mut wi);
+            fill(y, 3, 12, &mut wj);
+            gated(x, y, plain_sum(&wi, &wj, &is, &js, &ns))
         }
         Letter::K => {
             let is = I3K;
             let js = J3K;
             let ns = N3K;
-            const_sum(
-                x,
-                y,
-                Reach {
-                    up_i: 12,
-                    down_i: 2,
-                    up_j: 14,
-                    down_j: 12,
-                },
-                &is,
-                &js,
-                &ns,
-            )
+            fill(x, 12, 2, &mut wi);
+            fill(y, 14, 12, &mut wj);
+            gated(x, y, plain_sum(&wi, &wj, &is, &js, &ns))
         }
         Letter::L => {
             let is = I3L;
             let js = J3L;
             let ns = N3L;
-            const_sum(
+            fill(x, 14, 12, &mut wi);
+            fill(y, 36, 0, &mut wj);
+            gated(
                 x,
                 y,
-                Reach {
-                    up_i: 14,
-                    down_i: 12,
-                    up_j: 36,
-                    down_j: 0,
-                },
-                &is[0..SUMMED_3L],
-                &js[0..SUMMED_3L],
-                &ns[0..SUMMED_3L],
+                plain_sum(
+                    &wi,
+                    &wj,
+                    &is[0..SUMMED_3L],
+                    &js[0..SUMMED_3L],
+                    &ns[0..SUMMED_3L],
+                ),
             )
         }
         Letter::M => {
             let is = I3M;
             let js = J3M;
             let ns = N3M;
-            const_sum(
-                x,
-                y,
-                Reach {
-                    up_i: 28,
-                    down_i: 0,
-                    up_j: 36,
-                    down_j: 0,
-                },
-                &is,
-                &js,
-                &ns,
-            )
+            fill(x, 28, 0, &mut wi);
+            fill(y, 36, 0, &mut wj);
+            gated(x, y, plain_sum(&wi, &wj, &is, &js, &ns))
         }
-        Letter::N => {
-            let is = I3N;
-            let js = J3N;
-            let ns = N3N;
-            const_sum(
-                x,
-                y,
-                Reach {
-                    up_i: 18,
-                    down_i: 0,
-                    up_j: 6,
-                    down_j: 12,
-                },
-                &is,
-                &js,
-                &ns,
-            )
-        }
-        Letter::O => {
-            let is = I3O;
-            let js = J3O;
-            let ns = N3O;
-            const_sum(
-                x,
-                y,
-                Reach {
-                    up_i: 24,
-                    down_i: 0,
-                    up_j: 0,
-                    down_j: 12,
-                },
-                &is,
-                &js,
-                &ns,
-            )
-        }
-        Letter::P => {
-            let is = I3P;
-            let js = J3P;
-            let ns = N3P;
-            const_sum(
-                x,
-                y,
-                Reach {
-                    up_i: 36,
-                    down_i: 0,
-                    up_j: 2,
-                    down_j: 12,
-                },
-                &is,
-                &js,
-                &ns,
-            )
-        }
-        Letter::Q => {
-            let is = I3Q;
-            let js = J3Q;
-            let ns = N3Q;
-            const_sum(
-                x,
-                y,
-                Reach {
-                    up_i: 1,
-                    down_i: 12,
-                    up_j: 12,
-                    down_j: 0,
-                },
-                &is,
-                &js,
-                &ns,
-            )
-        }
-        Letter::R => {
-            let is = I3R;
-            let js = J3R;
-            let ns = N3R;
-            const_sum(
-                x,
-                y,
-                Reach {
-                    up_i: 14,
-                    down_i: 8,
-                    up_j: 14,
-                    down_j: 12,
-                },
-                &is,
-                &js,
-                &ns,
-            )
-        }
-        Letter::S => {
-            let is = I3S;
-            let js = J3S;
-            let ns = N3S;
-            const_sum(
-                x,
-                y,
-                Reach {
-                    up_i: 14,
-                    down_i: 12,
-                    up_j: 36,
-                    down_j: 0,
-                },
-                &is,
-                &js,
-                &ns,
-            )
-        }
-        Letter::T => {
-            let is = I3T;
-            let js = J3T;
-            let ns = N3T;
-            const_sum(
-                x,
-                y,
-                Reach {
-                    up_i: 36,
-                    down_i: 0,
-                    up_j: 36,
-                    down_j: 0,
-                },
-                &is,
-                &js,
-                &ns,
-            )
-        }
-        Letter::U => {
-            let is = I3U;
-            let js = J3U;
-            let ns = N3U;
-            const_sum(
-                x,
-                y,
-                Reach {
-                    up_i: 14,
-                    down_i: 12,
-                    up_j: 14,
-                    down_j: 12,
-                },
-                &is,
-                &js,
-                &ns,
-            )
-        }
-        Letter::V => {
-            let is = I3V;
-            let js = J3V;
-            let ns = N3V;
-            const_sum(
-                x,
-                y,
-                Reach {
-                    up_i: 14,
-                    down_i: 10,
-                    up_j: 14,
-                    down_j: 12,
-                },
-                &is,
-                &js,
-                &ns,
-            )
-        }
-        Letter::W => {
-            let is = I3W;
-            let js = J3W;
-            let ns = N3W;
-            const_sum(
-                x,
-                y,
-                Reach {
-                    up_i: 10,
-                    down_i: 12,
-                    up_j: 14,
-                    down_j: 12,
-                },
-                &is,
-                &js,
-                &ns,
-            )
-        }
-        Letter::X => {
-            let is = I3X;
-            let js = J3X;
-            let ns = N3X;
-            const_sum(
-                x,
-                y,
-                Reach {
-                    up_i: 14,
-                    down_i: 8,
-                    up_j: 14,
-                    down_j: 12,
-                },
-                &is,
-                &js,
-                &ns,
-            )
-        }
-        Letter::Y => {
-            let is = I3Y;
-            let js = J3Y;
-            let ns = N3Y;
-            const_sum(
-                x,
-                y,
-                Reach {
-                    up_i: 12,
-                    down_i: 0,
-                    up_j: 8,
-                    down_j: 8,
-                },
-                &is,
-                &js,
-                &ns,
-            )
-        }
-        Letter::Z => {
-            let is = I3Z;
-            let js = J3Z;
-            let ns = N3Z;
-            const_sum(
-                x,
-                y,
-                Reach {
-                    up_i: 8,
-                    down_i: 8,
-                    up_j: 8,
-                    down_j: 8,
-                },
-                &is,
-                &js,
-                &ns,
-            )
-        }
+        _ => later_sum(l, x, y),
     }
 }

@@ -8,13 +8,13 @@ use lib.Ieee.{Float, nan, ofBits}
 use lib.ListN.{length, getD}
 use Rattle.common.specs.Outcome.{zeroF}
 use Rattle.common.specs.Sum.{rawTotal, every}
-use Rattle.algo.specs.Table.{rowsOf}
+use Rattle.algo.specs.Table.{rowsOf, rowsFrom}
 use Rattle.algo.specs.Raw.{rawShared}
 use Rattle.algo.specs.Dense.{Stocked}
 use Rattle.algo.specs.Reach.{covers, widest}
 use Rattle.algo.specs.declared.Order.the-variants.{Zero}
 use Rattle.algo.specs.declared.Reach.{Reach}
-use Rattle.algo.proofs.Loops.{rowsFrom, rowAt, Within, one-more, none-left, every-at, back}
+use Rattle.algo.proofs.Loops.{rowAt, Within, one-more, none-left, every-at, back}
 use Rattle.algo.proofs.Reaches.{covers-i, covers-j}
 use Rattle.algo.proofs.Whole.{before}
 use Rattle.algo.proofs.items.pair_at.Statement.{statement}

@@ -1,107 +1,26 @@
--- `algo::sum_at` meets its contract. The invariant: what is left of the rows, added to the sum so far, is the whole sum. Assumes nothing.
-use mathlib.Core.Path.{_≡_, refl, sym, _∙_}
-use Prim.Native.Nat.{_-_, _≤_}
+-- `algo::sum_at` meets its contract: a part that is the whole. Assumes nothing.
+use mathlib.Core.Path.{sym, _∙_}
+use Prim.Native.Nat.{_≤_}
 use native.Mathlib.Omega.{arith}
-use lib.Dec.{T}
-use lib.IntN.{pos}
-use lib.Ieee.{Float, ofBits}
-use lib.ListN.{length, getD}
-use Rattle.common.specs.Outcome.{zeroF}
-use Rattle.common.specs.Sum.{rawTotal, every}
-use Rattle.algo.specs.Table.{rowsOf}
+use lib.Ieee.{ofBits}
+use lib.ListN.{length}
+use denote.Ref.{now}
+use borrow.Author.Needs.{needs}
 use Rattle.algo.specs.Raw.{rawDerived}
-use Rattle.algo.specs.Dense.{Stocked}
-use Rattle.algo.specs.Reach.{covers, widest}
-use Rattle.algo.specs.declared.Reach.{Reach}
-use Rattle.algo.proofs.Loops.{rowsFrom, Within, one-more, none-left, every-at, back}
+use Rattle.algo.proofs.Loops.{none-left}
 use Rattle.algo.proofs.items.sum_at.Statement.{statement}
 use Rattle.algo.proofs.items.sum_at.Tie as tie
 
-abbrev Inv-loop : tie.InvT-loop
-Inv-loop a b wi wj is js ns sum₀ k₀ sum k =
-    (k ≤ length ns)
-    × ((vi vj : Float) (r : Reach) → Stocked vi vj wi wj r → T (every (covers a b r) (rowsOf is js ns))
-    → rawTotal (rawDerived a b vi vj) sum (rowsFrom is js ns k) ≡ rawTotal (rawDerived a b vi vj) zeroF (rowsOf is js ns))
+part-at-requires : tie.Need-part-at-requires
+part-at-requires c κs = search needs
 
-abbrev μ-loop : tie.MeasureT-loop
-μ-loop a b wi wj is js ns sum₀ k₀ sum k = length ns - k
-
-within : (c : tie.In-loop Inv-loop μ-loop) → Within (c .before .before .before .args .is .now) (c .before .before .before .args .js .now) (c .before .before .before .args .ns .now) (c .before .loop .k)
-within c = record { i = omega arith; j = omega arith; n = omega arith }
-
-loop-holds : tie.Need-loop-holds Inv-loop μ-loop
+returns : tie.Need-returns
 unfolding ofBits
-loop-holds c = (omega arith, λ vi vj r s t. refl)
-
-mul-item-at : tie.Need-mul-item-at Inv-loop μ-loop
-mul-item-at c = omega arith
-
-shared-slice-copy-out-item-at : tie.Need-shared-slice-copy-out-item-at Inv-loop μ-loop
-shared-slice-copy-out-item-at c = omega arith
-
-mul-item-at-2 : tie.Need-mul-item-at-2 Inv-loop μ-loop
-mul-item-at-2 c = omega arith
-
-shared-slice-copy-out-item-at-2 : tie.Need-shared-slice-copy-out-item-at-2 Inv-loop μ-loop
-shared-slice-copy-out-item-at-2 c = omega arith
-
-mul-item-at-3 : tie.Need-mul-item-at-3 Inv-loop μ-loop
-mul-item-at-3 c = omega arith
-
-shared-slice-read-item-at : tie.Need-shared-slice-read-item-at Inv-loop μ-loop
-shared-slice-read-item-at c = omega arith
-
-item-at-requires : tie.Need-item-at-requires Inv-loop μ-loop
-item-at-requires c κs =
-    let l = c .before .before .before in
-    let s = l .before .before .before in
-    let a = s .args in
-    let k = l .before .loop .k in
-    rw (back (getD (a .is .now) k (pos 0)) (c .before .before .item-at-arg .given), back (getD (a .js .now) k (pos 0)) (c .before .item-at-arg2 .given))
-    (every-at (covers (a .a) (a .b) widest) (a .is .now) (a .js .now) (a .ns .now) (s .pre .2) k (within l))
-
-add-k : tie.Need-add-k Inv-loop μ-loop
-add-k c = omega arith
-
-loop-less : tie.Need-loop-less Inv-loop μ-loop
-loop-less c = omega arith
-
-loop-again : tie.Need-loop-again Inv-loop μ-loop
-loop-again c =
-    let l = c .before .before .before .before in
-    let s = l .before .before .before in
-    let a = s .args in
-    let k = l .before .loop .k in
-    let item = rw (back (getD (a .is .now) k (pos 0)) (c .before .before .before .item-at-arg .given), back (getD (a .js .now) k (pos 0)) (c .before .before .item-at-arg2 .given)) at (c .item-at .ensures) in (
-      omega arith,
-      λ vi vj r st t.
-          rw (item vi vj r st (every-at (covers (a .a) (a .b) r) (a .is .now) (a .js .now) (a .ns .now) t k (within l)))
-          (sym (one-more (rawDerived (a .a) (a .b) vi vj) (l .before .loop .sum) (a .is .now) (a .js .now) (a .ns .now) k (within l)) ∙ l .before .loop .inv .1 vi vj r st t),
-    )
-
-returns : tie.Need-returns Inv-loop μ-loop
 returns c =
-    let l = c .before in
-    let s = l .before .before in
+    let s = c .before .before in
     let a = s .args in
     λ vi vj r st t.
-    sym (none-left (rawDerived (a .a) (a .b) vi vj) (l .loop .sum) (a .is .now) (a .js .now) (a .ns .now) (l .loop .k) (s .pre .0) (c .loop-test .left)) ∙ l .loop .inv .1 vi vj r st t
+    sym (c .part-at .ensures vi vj r st t ∙ none-left (rawDerived (a .a) (a .b) vi vj) (c .part-at .result) (now (a .is)) (now (a .js)) (now (a .ns)) (length (now (a .ns))) (s .pre .0) (omega arith))
 
 pub sum-at-spec : {M : Type 1} → statement M
-sum-at-spec =
-    tie.close
-    (tie.spec
-    Inv-loop
-    μ-loop
-    loop-holds
-    mul-item-at
-    shared-slice-copy-out-item-at
-    mul-item-at-2
-    shared-slice-copy-out-item-at-2
-    mul-item-at-3
-    shared-slice-read-item-at
-    item-at-requires
-    add-k
-    loop-less
-    loop-again
-    returns)
+sum-at-spec = tie.close (tie.spec part-at-requires returns)

@@ -15,13 +15,13 @@ ghost use mathlib.Core.Path.{_≡_};
 ghost use lib.Dec.{T};
 ghost use lib.ListN.{length};
 ghost use Rattle.common.specs.Outcome.{orNan};
-ghost use Rattle.algo.specs.Table.{rowsOf, derived, term, sumRule};
+ghost use Rattle.algo.specs.Table.{rowsOf, derived, sumRule};
 ghost use Rattle.algo.specs.Joint.{shareRule};
 ghost use Rattle.algo.specs.Raw.{rawDivided, gate};
 ghost use Rattle.algo.specs.Reach.{covered};
 
 // The number x of finite vi and vj, or a NaN.
-fn settled(vi: f64, vj: f64, x: f64) -> f64
+pub fn gated(vi: f64, vj: f64, x: f64) -> f64
     ensures { λ r. ⌜ r ≡ orNan (gate vi vj x) ⌝ }
 {
     if is_finite(vi) {
@@ -40,7 +40,7 @@ fn settled(vi: f64, vj: f64, x: f64) -> f64
 fn finished(s: Share, vi: f64, vj: f64, x: f64) -> f64
     ensures { λ r. ⌜ r ≡ orNan (gate vi vj (rawDivided s vi vj x)) ⌝ }
 {
-    settled(vi, vj, divide(s, vi, vj, x))
+    gated(vi, vj, divide(s, vi, vj, x))
 }
 
 // Any of the six sums that are derived term by term.
@@ -60,14 +60,7 @@ pub fn const_slope(
     let mut wi = [0.0; 129];
     let mut wj = [0.0; 129];
     stock(vi, vj, reach, &mut wi, &mut wj);
-    settled(vi, vj, sum_at(a, b, &wi, &wj, is, js, ns))
-}
-
-pub fn const_sum(vi: f64, vj: f64, reach: Reach, is: &[i32], js: &[i32], ns: &[f64]) -> f64
-    requires { ⌜ (length (now is) ≡ length (now ns)) × (length (now js) ≡ length (now ns)) × T (covered Order.Zero Order.Zero reach (rowsOf (now is) (now js) (now ns))) ⌝ }
-    ensures { λ r. ⌜ r ≡ orNan (sumRule term vi vj (rowsOf (now (is .entry)) (now (js .entry)) (now (ns .entry)))) ⌝ }
-{
-    const_slope(Order::Zero, Order::Zero, vi, vj, reach, is, js, ns)
+    gated(vi, vj, sum_at(a, b, &wi, &wj, is, js, ns))
 }
 
 // Two sums of one item.

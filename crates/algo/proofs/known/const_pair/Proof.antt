@@ -6,8 +6,8 @@ use Rattle.algo.specs.Table.{rowsOf}
 use Rattle.algo.specs.declared.Order.the-variants.{Zero}
 use Rattle.algo.proofs.Reaches.{Covered, covered-says}
 use Rattle.algo.proofs.Sums.{share-ends}
-use Rattle.algo.proofs.tables.const_pair.Statement.{statement}
-use Rattle.algo.proofs.tables.const_pair.Tie as tie
+use Rattle.algo.proofs.known.const_pair.Statement.{statement}
+use Rattle.algo.proofs.known.const_pair.Tie as tie
 
 says : (c : tie.Start) → Covered (c .args .a) Zero (c .args .reach) (rowsOf (now (c .args .is)) (now (c .args .js)) (now (c .args .ns)))
 says c = let a = c .args in covered-says (a .a) Zero (a .reach) (rowsOf (now (a .is)) (now (a .js)) (now (a .ns))) (c .pre .2)

@@ -1,15 +1,12 @@
 -- `algo::const_slope` meets its contract. Assumes nothing.
-use mathlib.Core.Path.{refl, sym, _∙_, ap}
-use lib.Ieee.{Float}
+use mathlib.Core.Path.{refl}
 use denote.Ref.{now}
 use borrow.Author.Needs.{needs}
-use Rattle.common.specs.Outcome.{orNan}
 use Rattle.algo.specs.Table.{rowsOf}
-use Rattle.algo.specs.Raw.{gate}
 use Rattle.algo.proofs.Reaches.{Covered, covered-says}
-use Rattle.algo.proofs.Sums.{derived-raw}
-use Rattle.algo.proofs.tables.const_slope.Statement.{statement}
-use Rattle.algo.proofs.tables.const_slope.Tie as tie
+use Rattle.algo.proofs.Constant.{constant-sum}
+use Rattle.algo.proofs.known.const_slope.Statement.{statement}
+use Rattle.algo.proofs.known.const_slope.Tie as tie
 
 says : (c : tie.Start) → Covered (c .args .a) (c .args .b) (c .args .reach) (rowsOf (now (c .args .is)) (now (c .args .js)) (now (c .args .ns)))
 says c = let a = c .args in covered-says (a .a) (a .b) (a .reach) (rowsOf (now (a .is)) (now (a .js)) (now (a .ns))) (c .pre .2)
@@ -22,8 +19,8 @@ sum-at-requires c κs =
     let s = c .before .before .before .before .before .before in
     (s .pre .0, s .pre .1, says s .wide)
 
-settled-requires : tie.Need-settled-requires
-settled-requires c κs = search needs
+gated-requires : tie.Need-gated-requires
+gated-requires c κs = search needs
 
 returns : tie.Need-returns
 returns c =
@@ -32,9 +29,7 @@ returns c =
     let s = t .before .before .before .before in
     let a = s .args in
     let rows = rowsOf (now (a .is)) (now (a .js)) (now (a .ns)) in
-    c .settled .ensures
-    ∙ ap (λ (y : Float). orNan (gate (a .vi) (a .vj) y)) (x .sum-at .ensures (a .vi) (a .vj) (a .reach) (t .stock .ensures refl refl) (says s .each))
-    ∙ ap orNan (sym (derived-raw (a .a) (a .b) (a .vi) (a .vj) rows (says s .ranged)))
+    constant-sum (a .a) (a .b) (a .vi) (a .vj) (a .reach) _ _ rows _ _ (s .pre .2) (t .stock .ensures refl refl) (x .sum-at .ensures) (c .gated .ensures)
 
 pub const-slope-spec : {M : Type 1} → statement M
-const-slope-spec = tie.close (tie.spec stock-requires sum-at-requires settled-requires returns)
+const-slope-spec = tie.close (tie.spec stock-requires sum-at-requires gated-requires returns)

@@ -4,19 +4,19 @@ use lib.Ieee.{Float}
 use borrow.Author.Needs.{needs}
 use Rattle.common.specs.Outcome.{orNan}
 use Rattle.algo.specs.Raw.{gate}
-use Rattle.algo.proofs.tables.finished.Statement.{statement}
-use Rattle.algo.proofs.tables.finished.Tie as tie
+use Rattle.algo.proofs.known.finished.Statement.{statement}
+use Rattle.algo.proofs.known.finished.Tie as tie
 
 divide-requires : tie.Need-divide-requires
 divide-requires c κs = search needs
 
-settled-requires : tie.Need-settled-requires
-settled-requires c κs = search needs
+gated-requires : tie.Need-gated-requires
+gated-requires c κs = search needs
 
 returns : tie.Need-returns
 returns c =
     let a = c .before .before .args in
-    c .settled .ensures ∙ ap (λ (x : Float). orNan (gate (a .vi) (a .vj) x)) (c .before .divide .ensures)
+    c .gated .ensures ∙ ap (λ (x : Float). orNan (gate (a .vi) (a .vj) x)) (c .before .divide .ensures)
 
 pub finished-spec : {M : Type 1} → statement M
-finished-spec = tie.close (tie.spec divide-requires settled-requires returns)
+finished-spec = tie.close (tie.spec divide-requires gated-requires returns)

@@ -1,9 +1,9 @@
--- `algo::settled` meets its contract: 0.0 / 0.0 is a NaN. Assumes nothing.
+-- `algo::gated` meets its contract: 0.0 / 0.0 is a NaN. Assumes nothing.
 use lib.Ieee.{div, ofBits}
 use borrow.Author.Needs.{needs}
 use Rattle.common.proofs.Laws.{check-kept, check-lost}
-use Rattle.algo.proofs.tables.settled.Statement.{statement}
-use Rattle.algo.proofs.tables.settled.Tie as tie
+use Rattle.algo.proofs.known.gated.Statement.{statement}
+use Rattle.algo.proofs.known.gated.Tie as tie
 
 is-finite-requires : tie.Need-is-finite-requires
 is-finite-requires c κs = search needs
@@ -37,8 +37,8 @@ returns-4 c =
     let a = c .before .before .args in
     rw (check-lost (a .vi) (cc))
 
-pub settled-spec : {M : Type 1} → statement M
-settled-spec =
+pub gated-spec : {M : Type 1} → statement M
+gated-spec =
     tie.close
     (tie.spec
     is-finite-requires

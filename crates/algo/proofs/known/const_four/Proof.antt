@@ -7,8 +7,8 @@ use Rattle.algo.specs.declared.Order.the-variants.{Zero}
 use Rattle.algo.specs.declared.Share.the-variants.{I, Ii, Ij, Jj}
 use Rattle.algo.proofs.Reaches.{Covered, covered-says}
 use Rattle.algo.proofs.Sums.{share-ends}
-use Rattle.algo.proofs.tables.const_four.Statement.{statement}
-use Rattle.algo.proofs.tables.const_four.Tie as tie
+use Rattle.algo.proofs.known.const_four.Statement.{statement}
+use Rattle.algo.proofs.known.const_four.Tie as tie
 
 says : (c : tie.Start) → Covered Zero Zero (c .args .reach) (rowsOf (now (c .args .is)) (now (c .args .js)) (now (c .args .ns)))
 says c = let a = c .args in covered-says Zero Zero (a .reach) (rowsOf (now (a .is)) (now (a .js)) (now (a .ns))) (c .pre .2)
