@@ -12,6 +12,8 @@ use Rattle.common.proofs.or_nan.Kinds as or-nan-kinds
 use Rattle.common.proofs.or_nan.Reads as or-nan
 use Rattle.common.proofs.number.Kinds as number-kinds
 use Rattle.common.proofs.number.Reads as number
+use Rattle.common.proofs.verdict_byte.Kinds as verdict-byte-kinds
+use Rattle.common.proofs.verdict_byte.Reads as verdict-byte
 use Rattle.common.proofs.ranged.Kinds as ranged-kinds
 use Rattle.common.proofs.ranged.Reads as ranged
 use Rattle.common.proofs.check_only.Kinds as check-only-kinds
@@ -49,6 +51,9 @@ or-nan-one κs a e x y p q = p ∙ sym q
 
 pub number-one : One 0 number-kinds.ps number-kinds.r number.Post
 number-one κs a e x y p q = p ∙ sym q
+
+pub verdict-byte-one : One 0 verdict-byte-kinds.ps verdict-byte-kinds.r verdict-byte.Post
+verdict-byte-one κs a e x y p q = p ∙ sym q
 
 pub ranged-one : One 0 ranged-kinds.ps ranged-kinds.r ranged.Post
 ranged-one κs a e x y p q = p ∙ sym q

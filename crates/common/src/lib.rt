@@ -1,7 +1,7 @@
 // What every layer shares: the units, the refusals, the answer for one number, the ranges and the constants.
 // The meaning of each answer is in specs/Answer.antt, of each range and constant in specs/Constant.antt.
 ghost use mathlib.Core.Path.{_≡_};
-ghost use Rattle.common.specs.Outcome.{finite, check, orNan};
+ghost use Rattle.common.specs.Outcome.{finite, check, orNan, numberIn};
 ghost use Rattle.common.specs.Answer.{numberOf, paper, verdict};
 ghost use Rattle.common.specs.Range.{within, onlyRule, pairRule};
 ghost use Rattle.common.specs.Constant.{printed, P-FROM, P-TO, T-FROM, T-TO, D-FROM, D-TO, H-FROM, H-TO, S-FROM, S-TO};
@@ -205,6 +205,16 @@ pub fn number(k: Refusal) -> u8
         Refusal::Step => 5,
         Refusal::Property => 6,
         Refusal::Columns => 7,
+    }
+}
+
+// The number of a verdict, 0 where it is accepted.
+pub fn verdict_byte(v: Verdict) -> u8
+    ensures { λ r. ⌜ r ≡ numberIn (verdict v) ⌝ }
+{
+    match v {
+        Verdict::Accepted => 0,
+        Verdict::Refused(k) => number(k),
     }
 }
 

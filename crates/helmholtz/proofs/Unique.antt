@@ -58,6 +58,8 @@ use Rattle.helmholtz.proofs.property.Td2alfap_reg3.Kinds as Td2alfap-re
 use Rattle.helmholtz.proofs.property.Td2alfap_reg3.Reads as Td2alfap-reg3
 use Rattle.helmholtz.proofs.property.Td_thermal_reg3.Kinds as Td-thermal-reg3-kinds
 use Rattle.helmholtz.proofs.property.Td_thermal_reg3.Reads as Td-thermal-reg3
+use Rattle.helmholtz.proofs.records.refuse.Kinds as refuse-kinds
+use Rattle.helmholtz.proofs.records.refuse.Reads as refuse
 use Rattle.helmholtz.proofs.records.fill.Kinds as fill-kinds
 use Rattle.helmholtz.proofs.records.fill.Reads as fill
 use Rattle.helmholtz.proofs.records.Td_reg3.Kinds as Td-reg3-kinds
@@ -148,6 +150,9 @@ Td2alfap-reg3-one κs a e x y p q = same-answer _ x y p q
 
 pub Td-thermal-reg3-one : One 0 Td-thermal-reg3-kinds.ps Td-thermal-reg3-kinds.r Td-thermal-reg3.Post
 Td-thermal-reg3-one κs a e x y p q = same-answer _ x y p q
+
+pub refuse-one : One 0 refuse-kinds.ps refuse-kinds.r refuse.Post
+refuse-one κs a e x y p q = same-record _ x y p q
 
 pub fill-one : One 0 fill-kinds.ps fill-kinds.r fill.Post
 fill-one κs a e x y p q = same-record _ x y p q

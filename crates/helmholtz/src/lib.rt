@@ -37,6 +37,7 @@ pub use property::Td2w_reg3;
 pub use property::Td2z_reg3;
 pub use records::Td_reg3;
 pub use records::fill;
+pub use records::refuse;
 
 // The property record: K, kg/m3, m3/kg, MPa, kJ/kg, kJ/(kg K), kJ/kg, kJ/(kg K), kJ/(kg K), m/s.
 pub struct Record {

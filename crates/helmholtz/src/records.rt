@@ -25,7 +25,7 @@ ghost use Rattle.common.specs.Answer.{paper, numberOf};
 ghost use Rattle.helmholtz.specs.Record.{report, paperRecord, pressureFrom, recordAfter, recordSteps, recordRule, complete};
 
 // A refused record: +0.0 in every field.
-fn refuse(k: Refusal) -> RecordAnswer
+pub fn refuse(k: Refusal) -> RecordAnswer
     ensures { λ r. ⌜ paperRecord r ≡ report (refused (numberOf k)) ⌝ }
 {
     RecordAnswer {

@@ -10,41 +10,17 @@ use common::KJPerKgK;
 use common::Kelvin;
 use common::KgPerM3;
 use common::MPa;
-use common::Refusal;
-use common::Verdict;
 use helmholtz::Pressure;
-use helmholtz::Record;
 use helmholtz::RecordAnswer;
 use helmholtz::fill;
+use helmholtz::refuse;
 use state::density;
 use volume::Found;
 use volume::found_pT;
 ghost use mathlib.Core.Path.{_≡_};
-ghost use Rattle.common.specs.Outcome.{refused};
-ghost use Rattle.common.specs.Answer.{paper, numberOf};
+ghost use Rattle.common.specs.Answer.{paper};
 ghost use Rattle.helmholtz.specs.Record.{report, paperRecord};
 ghost use Rattle.region3.specs.Entries.{stateRecord, pTRule, phRule, psRule, hsRule};
-
-// A refused record: +0.0 in every field.
-fn refuse(k: Refusal) -> RecordAnswer
-    ensures { λ r. ⌜ paperRecord r ≡ report (refused (numberOf k)) ⌝ }
-{
-    RecordAnswer {
-        verdict: Verdict::Refused(k),
-        record: Record {
-            T: 0.0,
-            d: 0.0,
-            v: 0.0,
-            p: 0.0,
-            h: 0.0,
-            s: 0.0,
-            u: 0.0,
-            cv: 0.0,
-            cp: 0.0,
-            w: 0.0,
-        },
-    }
-}
 
 // The record of a state whose T and v were found, or refused, and whose d has yet to be tested.
 fn record_of(t: Answer, v: Answer, pressure: Pressure) -> RecordAnswer

@@ -8,6 +8,7 @@ use common::KJPerKgK;
 use common::Kelvin;
 use common::KgPerM3;
 use common::MPa;
+use common::verdict_byte;
 use helmholtz::Td_reg3;
 use helmholtz::Td_thermal_reg3;
 use r4::T_saturation;
@@ -21,7 +22,6 @@ use rules::exponential;
 use rules::logarithm;
 use rules::power;
 use rules::root;
-use tell::byte_of;
 use tell::tell;
 use tell::tell_letter;
 use tell::tell_record;
@@ -140,5 +140,5 @@ pub extern "C" fn r3_columns(
     ensures { λ r. ⌜ ToldColumns (columnsRule (now (p .entry)) (now (t .entry)) (lent (now (letter .entry)) (now (density .entry)) (now (refusal .entry)))) r (now (letter .exit)) (now (density .exit)) (now (refusal .exit)) ⌝ }
 {
     let v = columns(p, t, letter, density, refusal);
-    byte_of(v)
+    verdict_byte(v)
 }

@@ -1,15 +1,14 @@
 // An answer as a refusal byte and what stands behind a pointer.
 use common::Answer;
-use common::Verdict;
 use common::number;
+use common::verdict_byte;
 use helmholtz::Record;
 use helmholtz::RecordAnswer;
 use letter::Choice;
 use letter::letter_byte;
 use letter::refusal_byte;
 ghost use mathlib.Core.Path.{_≡_};
-ghost use Rattle.common.specs.Outcome.{numberIn};
-ghost use Rattle.common.specs.Answer.{paper, verdict};
+ghost use Rattle.common.specs.Answer.{paper};
 ghost use Rattle.letter.specs.Letter.{chosen};
 ghost use Rattle.helmholtz.specs.Record.{paperRecord};
 ghost use Rattle.region3_c.specs.Told.{Told, ToldLetter, ToldRecord, fieldsOf};
@@ -36,15 +35,6 @@ pub fn tell_letter(c: Choice, letter: &mut u8) -> u8
     refusal_byte(c)
 }
 
-pub fn byte_of(v: Verdict) -> u8
-    ensures { λ r. ⌜ r ≡ numberIn (verdict v) ⌝ }
-{
-    match v {
-        Verdict::Accepted => 0,
-        Verdict::Refused(k) => number(k),
-    }
-}
-
 fn fields(r: Record) -> [f64; 10]
     ensures { λ a. ⌜ a ≡ fieldsOf r ⌝ }
 {
@@ -56,5 +46,5 @@ pub fn tell_record(a: RecordAnswer, out: &mut [f64; 10]) -> u8
 {
     *out = fields(a.record);
     let v = a.verdict;
-    byte_of(v)
+    verdict_byte(v)
 }

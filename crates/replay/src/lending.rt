@@ -58,7 +58,7 @@ fn lend(p: usize, t: usize, l: usize, d: usize, r: usize) -> Lent
         &mut refusals[..r],
     );
     Lent {
-        refusal: reply::verdict_byte(verdict),
+        refusal: common::verdict_byte(verdict),
         written: touched(&letters, &densities, &refusals),
     }
 }

@@ -11,8 +11,6 @@ use Rattle.common.proofs.Same.{One}
 use Rattle.reply.specs.Rows.{repliesTo}
 use Rattle.reply.proofs.answer.Kinds as answer-kinds
 use Rattle.reply.proofs.answer.Reads as answer
-use Rattle.reply.proofs.shape.verdict_byte.Kinds as verdict-byte-kinds
-use Rattle.reply.proofs.shape.verdict_byte.Reads as verdict-byte
 use Rattle.reply.proofs.stored.agrees.Kinds as agrees-kinds
 use Rattle.reply.proofs.stored.agrees.Reads as agrees
 use Rattle.reply.proofs.page.answer_rows.Kinds as answer-rows-kinds
@@ -20,9 +18,6 @@ use Rattle.reply.proofs.page.answer_rows.Reads as answer-rows
 
 pub answer-one : One 0 answer-kinds.ps answer-kinds.r answer.Post
 answer-one κs a e x y p q = p ∙ sym q
-
-pub verdict-byte-one : One 0 verdict-byte-kinds.ps verdict-byte-kinds.r verdict-byte.Post
-verdict-byte-one κs a e x y p q = p ∙ sym q
 
 pub agrees-one : One 1 agrees-kinds.ps agrees-kinds.r agrees.Post
 agrees-one κs a e x y p q = p ∙ sym q

@@ -11,7 +11,6 @@ use entries::by_rules;
 use entries::by_states;
 use entries::by_volumes;
 pub use page::answer_rows;
-pub use shape::verdict_byte;
 pub use stored::agrees;
 ghost use mathlib.Core.Path.{_≡_};
 ghost use Rattle.reply.specs.Entries.{replyRule};

@@ -1,16 +1,15 @@
 // The shapes of a reply: a refusal, one number, a letter, a record, a row of the column run.
 use crate::Reply;
 use common::Answer;
-use common::Verdict;
 use common::number;
+use common::verdict_byte;
 use helmholtz::RecordAnswer;
 use letter::Choice;
 use letter::letter_byte;
 use letter::refusal_byte;
 use region3::Line;
 ghost use mathlib.Core.Path.{_≡_};
-ghost use Rattle.common.specs.Outcome.{numberIn};
-ghost use Rattle.common.specs.Answer.{paper, verdict};
+ghost use Rattle.common.specs.Answer.{paper};
 ghost use Rattle.letter.specs.Letter.{chosen};
 ghost use Rattle.helmholtz.specs.Record.{paperRecord};
 ghost use Rattle.reply.specs.Shape.{refusedBy, oneOf, letterOf, reported, lineOf, placeOf};
@@ -49,15 +48,6 @@ pub fn choice(c: Choice) -> Reply
         refusal: refusal_byte(c),
         letter: letter_byte(c),
         numbers,
-    }
-}
-
-pub fn verdict_byte(v: Verdict) -> u8
-    ensures { λ r. ⌜ r ≡ numberIn (verdict v) ⌝ }
-{
-    match v {
-        Verdict::Accepted => 0,
-        Verdict::Refused(k) => number(k),
     }
 }
 

@@ -7,8 +7,8 @@ use Rattle.region3_c.proofs.r3_columns.Tie as tie
 columns-requires : tie.Need-columns-requires
 columns-requires c κs = search needs
 
-byte-of-requires : tie.Need-byte-of-requires
-byte-of-requires c κs = search needs
+verdict-byte-requires : tie.Need-verdict-byte-requires
+verdict-byte-requires c κs = search needs
 
 same-length : tie.Need-same-length
 same-length c = search needs
@@ -22,9 +22,9 @@ same-length-3 c = search needs
 returns : tie.Need-returns
 returns c =
     let ran = c .before .before .before .before .before .before .before in
-    told-columns _ _ _ _ _ (c .byte-of .ensures) (ran .columns .ensures)
+    told-columns _ _ _ _ _ (c .verdict-byte .ensures) (ran .columns .ensures)
 
 pub r3-columns-spec : {M : Type 1} → statement M
 r3-columns-spec =
     tie.close
-    (tie.spec columns-requires byte-of-requires same-length same-length-2 same-length-3 returns)
+    (tie.spec columns-requires verdict-byte-requires same-length same-length-2 same-length-3 returns)
