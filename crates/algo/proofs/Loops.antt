@@ -1,8 +1,9 @@
 -- A loop over the columns works the rows one by one. Assumes nothing.
-use mathlib.Core.Path.{_≡_}
+use mathlib.Core.Path.{_≡_, sym, _∙_}
+use mathlib.Core.Logic.{_⊎_, inl, inr, ⊎-elim}
 use mathlib.Core.Bool.{Bool}
 use mathlib.Core.List.{List, [], _∷_}
-use Prim.Native.Nat.{ℕ, zero, suc, _+_, _^_, _<_, _≤_}
+use Prim.Native.Nat.{ℕ, zero, suc, _+_, _-_, _^_, _<_, _≤_}
 use native.Mathlib.Nat.{not-suc-le-zero, le-of-suc-le-suc}
 use native.Mathlib.Numerals.{add-one}
 use native.Mathlib.Omega.{arith}
@@ -37,6 +38,20 @@ one-more u s is js ns k h = rw (add-one, drop-cons is k (pos 0) (h .i), drop-con
 pub none-left : (u : Row → Float) (s : Float) (is js : List ℤ) (ns : List Float) (k : ℕ) → length is ≡ length ns → length ns ≤ k → rawTotal u s (rowsFrom is js ns k) ≡ s
 unfolding rawTotal rowsOf
 none-left u s is js ns k e h = rw (drop-of-length-le is {i = k} (omega arith))
+
+either : (a b : ℕ) → (a ≤ b) ⊎ (b ≤ a)
+either zero b = inl (omega arith)
+either (suc a) zero = inr (omega arith)
+either (suc a) (suc b) = ⊎-elim (λ (h : a ≤ b). inl (omega arith)) (λ (h : b ≤ a). inr (omega arith)) (either a b)
+
+-- a part that would go past the end ends there: k, or the length where that is less
+pub cut-off : (u : Row → Float) (s : Float) (is js : List ℤ) (ns : List Float) (k : ℕ) → length is ≡ length ns →
+    rawTotal u s (rowsFrom is js ns (length ns - (length ns - k))) ≡ rawTotal u s (rowsFrom is js ns k)
+cut-off u s is js ns k e =
+    ⊎-elim
+    (λ (h : k ≤ length ns). let m : length ns - (length ns - k) ≡ k = omega arith in rw m)
+    (λ (h : length ns ≤ k). none-left u s is js ns (length ns - (length ns - k)) e (omega arith) ∙ sym (none-left u s is js ns k e h))
+    (either k (length ns))
 
 -- a test that passes at each row passes at the row k
 every-in : (f : Row → Bool) (is js : List ℤ) (ns : List Float) → T (every f (rowsOf is js ns)) → (k : ℕ) → k < length is → k < length js → k < length ns → T (f (rowAt is js ns k))

@@ -128,8 +128,8 @@ pub fn sum_at(
     part_at(a, b, 0.0, 0, ns.len(), wi, wj, is, js, ns)
 }
 
-// The sum that nothing is derived in, in three parts, each so short that a compiler writes its rows out where the table is a constant, and
-// works no powers but those they name. 45 rows and more go by too; only the last part is no longer short then.
+// The sum that nothing is derived in, in parts so short that a compiler writes them out where the table is a constant, and then works no
+// powers but those that its rows name.
 pub fn plain_sum(wi: &[f64; 129], wj: &[f64; 129], is: &[i32], js: &[i32], ns: &[f64]) -> f64
     requires { ⌜ (length (now is) ≡ length (now ns)) × (length (now js) ≡ length (now ns)) × T (every (covers Order.Zero Order.Zero widest) (rowsOf (now is) (now js) (now ns))) ⌝ }
     ensures { λ x. ⌜ ((vi vj : Float) (r : Reach) → Stocked vi vj (now (wi .entry)) (now (wj .entry)) r
@@ -137,22 +137,24 @@ pub fn plain_sum(wi: &[f64; 129], wj: &[f64; 129], is: &[i32], js: &[i32], ns: &
         → x ≡ rawTotal (rawDerived Order.Zero Order.Zero vi vj) zeroF (rowsOf (now (is .entry)) (now (js .entry)) (now (ns .entry)))) ⌝ }
 {
     let n = ns.len();
-    let first = least(n, 15);
-    let second = least(n, 30);
-    let one = part_at(Order::Zero, Order::Zero, 0.0, 0, first, wi, wj, is, js, ns);
-    let two = part_at(
-        Order::Zero,
-        Order::Zero,
-        one,
-        first,
-        second,
-        wi,
-        wj,
-        is,
-        js,
-        ns,
-    );
-    part_at(Order::Zero, Order::Zero, two, second, n, wi, wj, is, js, ns)
+    let mut sum = 0.0;
+    let mut start = 0;
+    while start < n {
+        sum = part_at(
+            Order::Zero,
+            Order::Zero,
+            sum,
+            start,
+            least(n, start + 15),
+            wi,
+            wj,
+            is,
+            js,
+            ns,
+        );
+        start += 15;
+    }
+    sum
 }
 
 // Two sums of one item.
