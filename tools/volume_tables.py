@@ -137,14 +137,16 @@ less14 digits e = scaled true digits 14 e
 '''
     text += '\n'.join(spec_table(specs[key], what, rows) for key, what, rows, _ in tables)
     write(f'crates/{name}/specs/Printed.antt', text)
-    dec = 'ghost use lib.Dec.{T};\n' if len(tables) > ARMS else ''
+    halved = len(tables) > ARMS
+    number = 'ghost use Prim.Native.Nat.{_≤_};\nghost use denote.Enum.Declared.{tagOf};\n' if halved else ''
+    kind = 'ghost use Rattle.letter.proofs.Letter.{the-type};\n' if halved else ''
     uses = sorted(['use algo::fill;', 'use algo::gated;', 'use algo::plain_sum;', kind_use], key=lambda u: (not u.startswith('use crate'), u))
     code = f'''// The tables of {document} by column, and the sum of each. specs/Printed.antt has their rows as printed.
 {chr(10).join(uses)}
 ghost use mathlib.Core.Path.{{_≡_}};
-{dec}ghost use Rattle.common.specs.Outcome.{{orNan}};
+{number}ghost use Rattle.common.specs.Outcome.{{orNan}};
 ghost use Rattle.algo.specs.Table.{{sumRule, term}};
-ghost use Rattle.{name}.specs.{rule_use};
+{kind}ghost use Rattle.{name}.specs.{rule_use};
 
 '''
     code += '\n'.join(columns(key, what, rows, n) for key, what, rows, n in tables)
@@ -168,10 +170,10 @@ ghost use Rattle.{name}.specs.{rule_use};
 // that is lent is built where its function starts, for every arm.'''
     half = len(tables)
     last = ''
-    if half > ARMS:
+    if halved:
         half //= 2
         last = f'_ => later_sum({of[0]}, x, y),\n'
-        code += function('// The same for the letters from n on.', 'fn later_sum', f'    requires {{ ⌜ T (late {of[0]}) ⌝ }}\n', tables[half:], '_ => 0.0,\n')
+        code += function('// The same for the letters from n on.', 'fn later_sum', f'    requires {{ ⌜ {half} ≤ tagOf the-type {of[0]} ⌝ }}\n', tables[half:], '_ => 0.0,\n')
     code += function(said, f'pub fn {called}', '', tables[:half], last)
     write(f'crates/{name}/src/columns.rt', code)
 
@@ -187,7 +189,7 @@ def main(rust):
     letters = of(read('region3_v_subregion_pT.rs'), VOLUME)
     # the Rust's steps of letter l end at 42 of 43 rows
     letters = [(key, what, rows, 42 if key == '3l' else n) for key, what, rows, n in letters]
-    crate('tables', 'S05rev', letters, 'letter_sum', 'l: Letter', "a letter's", 'summed l', 'Summed.{summed, late}', 'use letter::Letter;')
+    crate('tables', 'S05rev', letters, 'letter_sum', 'l: Letter', "a letter's", 'summed l', 'Summed.{summed}', 'use letter::Letter;')
     equations = of(read('region3_Tv_phps.rs'), PHPS) + of(read('region3_p_hs.rs'), HS)
     crate(
         'backward', 'S03rev and S04rev', equations, 'sum', 'e: Equation', "an equation's", 'tableOf e', 'Equation.{tableOf}', 'use crate::Equation;'

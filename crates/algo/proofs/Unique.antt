@@ -87,14 +87,14 @@ same-four = same fourPaper fourOf four-back
 pub fill-one : (κs : Lfts 1) (a : Dens κs fill-kinds.ps) (d e : AtExit (endedOf 1 fill-kinds.ps fill-kinds.r) κs) (x y : resT fill-kinds.r κs .Denot) →
     fill.Post κs a x d → fill.Post κs a y e →
     length (now (a .1 .1 .1 .0)) ≡ 129 → (k : ℕ) → 64 - a .1 .1 .0 ≤ k → k < 65 + a .1 .0 → getD (now (d .1 .1 .1 .0)) k nan ≡ getD (now (e .1 .1 .1 .0)) k nan
-fill-one κs a d e x y p q h k lo hi = p h .at k lo hi ∙ sym (q h .at k lo hi)
+fill-one κs a d e x y p q h k lo hi = p .stand h .at k lo hi ∙ sym (q .stand h .at k lo hi)
 
 -- of two tables that have the powers of two bases as far as the rows go
 pub plain-sum-one : (κs : Lfts 5) (a : Dens κs plain-sum-kinds.ps) (e : AtExit (endedOf 5 plain-sum-kinds.ps plain-sum-kinds.r) κs) (x y : resT plain-sum-kinds.r κs .Denot) →
     plain-sum.Post κs a x e → plain-sum.Post κs a y e →
     (vi vj : Float) (r : Reach) → Stocked vi vj (now (a .0)) (now (a .1 .0)) r
     → T (every (covers Zero Zero r) (rowsOf (now (a .1 .1 .0)) (now (a .1 .1 .1 .0)) (now (a .1 .1 .1 .1 .0)))) → x ≡ y
-plain-sum-one κs a e x y p q vi vj r s t = p vi vj r s t ∙ sym (q vi vj r s t)
+plain-sum-one κs a e x y p q vi vj r s t = p .over vi vj r s t ∙ sym (q .over vi vj r s t)
 
 pub gated-one : One 0 gated-kinds.ps gated-kinds.r gated.Post
 gated-one κs a e x y p q = p ∙ sym q

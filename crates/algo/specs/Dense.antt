@@ -28,6 +28,10 @@ pub record Filled (a : Float) (w : List Float) (lo hi : ℕ) : Type 0 where
   pub size : length w ≡ 129
   pub at : (k : ℕ) → lo ≤ k → k < hi → getD w k nan ≡ rawPower a (exponentAt k)
 
+-- the powers of a from -down to up stand in w, if it has room for them
+pub record Powers (a : Float) (before w : List Float) (up down : ℕ) : Type 0 where
+  pub stand : length before ≡ 129 → Filled a w (64 - down) (65 + up)
+
 -- the powers of both bases, as far as r goes
 pub record Stocked (vi vj : Float) (wi wj : List Float) (r : Reach) : Type 0 where
   pub i : Filled vi wi (64 - r .«down_i») (65 + r .«up_i»)

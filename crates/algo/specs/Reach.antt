@@ -5,10 +5,12 @@ use mathlib.Core.Bool.{Bool, false}
 use mathlib.Core.List.{List, [], _∷_}
 use lib.Dec.{T, ltb, leb}
 use lib.IntN.{ℤ, pos, negsuc}
-use Rattle.common.specs.Outcome.{pick}
-use Rattle.common.specs.Sum.{both, every}
+use lib.Ieee.{Float}
+use Rattle.common.specs.Outcome.{pick, zeroF}
+use Rattle.common.specs.Sum.{both, every, rawTotal}
 use Rattle.algo.specs.Table.{Row, row, left}
-use Rattle.algo.specs.Raw.{inRange}
+use Rattle.algo.specs.Raw.{inRange, rawDerived}
+use Rattle.algo.specs.Dense.{Stocked}
 use Rattle.algo.specs.declared.Order.{Order}
 use Rattle.algo.specs.declared.Order.the-variants.{Zero, One, Two}
 use Rattle.algo.specs.declared.Reach.{Reach}
@@ -32,6 +34,10 @@ room r = both (leb (r .«up_i») 64) (both (leb (r .«down_i») 64) (both (leb (
 -- a sum's exponents go no further than that, and that is no further than the power rule goes
 abbrev pub covered : Order → Order → Reach → List Row → Bool
 covered a b r rs = both (room r) (every (covers a b r) rs)
+
+-- x is the sum of the rows, over any two bases whose powers stand in wi and wj as far as the rows go
+pub record Summed (a b : Order) (wi wj : List Float) (rs : List Row) (x : Float) : Type 0 where
+  pub over : (vi vj : Float) (r : Reach) → Stocked vi vj wi wj r → T (every (covers a b r) rs) → x ≡ rawTotal (rawDerived a b vi vj) zeroF rs
 
 -- ---- of a column
 

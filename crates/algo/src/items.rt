@@ -16,7 +16,7 @@ ghost use Rattle.common.specs.Sum.{rawTotal, every};
 ghost use Rattle.algo.specs.Table.{row, rowsOf, rowsFrom, left};
 ghost use Rattle.algo.specs.Raw.{rawFactor, rawDerived, rawWeigh, rawShared, rawDivided};
 ghost use Rattle.algo.specs.Dense.{Filled, Stocked};
-ghost use Rattle.algo.specs.Reach.{spans, covers, widest};
+ghost use Rattle.algo.specs.Reach.{spans, covers, widest, Summed};
 ghost use Rattle.algo.specs.declared.Reach.{Reach};
 
 // x with the factor v^k, derived so often.
@@ -121,9 +121,7 @@ pub fn sum_at(
     ns: &[f64],
 ) -> f64
     requires { ⌜ (length (now is) ≡ length (now ns)) × (length (now js) ≡ length (now ns)) × T (every (covers a b widest) (rowsOf (now is) (now js) (now ns))) ⌝ }
-    ensures { λ x. ⌜ ((vi vj : Float) (r : Reach) → Stocked vi vj (now (wi .entry)) (now (wj .entry)) r
-        → T (every (covers a b r) (rowsOf (now (is .entry)) (now (js .entry)) (now (ns .entry))))
-        → x ≡ rawTotal (rawDerived a b vi vj) zeroF (rowsOf (now (is .entry)) (now (js .entry)) (now (ns .entry)))) ⌝ }
+    ensures { λ x. ⌜ Summed a b (now (wi .entry)) (now (wj .entry)) (rowsOf (now (is .entry)) (now (js .entry)) (now (ns .entry))) x ⌝ }
 {
     part_at(a, b, 0.0, 0, ns.len(), wi, wj, is, js, ns)
 }
@@ -132,9 +130,7 @@ pub fn sum_at(
 // powers but those that its rows name.
 pub fn plain_sum(wi: &[f64; 129], wj: &[f64; 129], is: &[i32], js: &[i32], ns: &[f64]) -> f64
     requires { ⌜ (length (now is) ≡ length (now ns)) × (length (now js) ≡ length (now ns)) × T (every (covers Order.Zero Order.Zero widest) (rowsOf (now is) (now js) (now ns))) ⌝ }
-    ensures { λ x. ⌜ ((vi vj : Float) (r : Reach) → Stocked vi vj (now (wi .entry)) (now (wj .entry)) r
-        → T (every (covers Order.Zero Order.Zero r) (rowsOf (now (is .entry)) (now (js .entry)) (now (ns .entry))))
-        → x ≡ rawTotal (rawDerived Order.Zero Order.Zero vi vj) zeroF (rowsOf (now (is .entry)) (now (js .entry)) (now (ns .entry)))) ⌝ }
+    ensures { λ x. ⌜ Summed Order.Zero Order.Zero (now (wi .entry)) (now (wj .entry)) (rowsOf (now (is .entry)) (now (js .entry)) (now (ns .entry))) x ⌝ }
 {
     let n = ns.len();
     let mut sum = 0.0;

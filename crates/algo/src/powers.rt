@@ -7,7 +7,7 @@ ghost use lib.Dec.{T};
 ghost use lib.ListN.{length};
 ghost use lib.Ieee.{Float};
 ghost use Rattle.algo.specs.Raw.{rawOver};
-ghost use Rattle.algo.specs.Dense.{squared, Filled, Stocked, exponentAt};
+ghost use Rattle.algo.specs.Dense.{squared, Filled, Powers, Stocked, exponentAt};
 ghost use Rattle.algo.specs.Reach.{spans, room};
 
 // x / d, or d where that is lost.
@@ -79,7 +79,7 @@ fn fill_down(low: u32, w: &mut [f64; 129])
 // The powers from -down to up.
 pub fn fill(a: f64, up: u32, down: u32, w: &mut [f64; 129])
     requires { ⌜ (up ≤ 64) × (down ≤ 64) ⌝ }
-    ensures { λ _. ⌜ (length (now (w .entry)) ≡ 129 → Filled a (now (w .exit)) (64 - down) (65 + up)) ⌝ }
+    ensures { λ _. ⌜ Powers a (now (w .entry)) (now (w .exit)) up down ⌝ }
 {
     let top: u32 = if up < down { down } else { up };
     fill_up(a, top as usize, w);

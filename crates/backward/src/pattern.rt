@@ -4,8 +4,7 @@ use crate::Form;
 use crate::columns::sum;
 use rules::over;
 ghost use mathlib.Core.Path.{_≡_};
-ghost use Rattle.common.specs.Outcome.{check, orNan};
-ghost use Rattle.algo.specs.Table.{sumRule, term};
+ghost use Rattle.common.specs.Outcome.{check};
 ghost use Rattle.backward.specs.Equation.{tableOf, formOf, workedBy, worked};
 
 fn form(e: Equation) -> Form

@@ -21,30 +21,17 @@ fn column_rows(table: &[u8], which: usize) -> usize
     if n < 64 { n } else { 64 }
 }
 
-fn exponents(table: &[u8], from: usize) -> [i32; 64]
-    requires { ⌜ from ≤ 1040 ⌝ }
-    ensures { λ r. ⌜ 64 ≡ length r ⌝ }
+// The columns of a table, 64 rows of each.
+fn columns(table: &[u8], is: &mut [i32; 64], js: &mut [i32; 64], ns: &mut [f64; 64])
+    ensures { λ _. ⌜ (length (now (is .exit)) ≡ length (now (is .entry))) × (length (now (js .exit)) ≡ length (now (js .entry))) × (length (now (ns .exit)) ≡ length (now (ns .entry))) ⌝ }
 {
-    let mut column = [0i32; 64];
-    let mut k = 0;
+    let mut k: usize = 0;
     while k < 64 {
-        column[k] = int_at(table, from + 4 * k);
+        is[k] = int_at(table, 16 + 4 * k);
+        js[k] = int_at(table, 272 + 4 * k);
+        ns[k] = float_at(table, 528 + 8 * k);
         k += 1;
     }
-    column
-}
-
-fn coefficients(table: &[u8], from: usize) -> [f64; 64]
-    requires { ⌜ from ≤ 1040 ⌝ }
-    ensures { λ r. ⌜ 64 ≡ length r ⌝ }
-{
-    let mut column = [0.0; 64];
-    let mut k = 0;
-    while k < 64 {
-        column[k] = float_at(table, from + 8 * k);
-        k += 1;
-    }
-    column
 }
 
 // A sum by its number.
@@ -65,9 +52,10 @@ fn by_number(sum: u8, vi: f64, vj: f64, is: &[i32], js: &[i32], ns: &[f64]) -> O
 }
 
 pub fn work(sum: u8, vi: f64, vj: f64, table: &[u8]) -> Outcome {
-    let is = exponents(table, 16);
-    let js = exponents(table, 272);
-    let ns = coefficients(table, 528);
+    let mut is = [0i32; 64];
+    let mut js = [0i32; 64];
+    let mut ns = [0.0; 64];
+    columns(table, &mut is, &mut js, &mut ns);
     let i = column_rows(table, 0);
     let j = column_rows(table, 1);
     let n = column_rows(table, 2);

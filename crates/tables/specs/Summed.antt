@@ -1,5 +1,4 @@
 -- The rows that are summed for a letter. Assumes nothing: these are definitions.
-use mathlib.Core.Bool.{Bool, true, false}
 use mathlib.Core.List.{List}
 use lib.ListN.{take}
 use Rattle.algo.specs.Table.{Row}
@@ -35,32 +34,3 @@ summed letters.W = table3w
 summed letters.X = table3x
 summed letters.Y = table3y
 summed letters.Z = table3z
-
--- the letters from n on
-abbrev pub late : Letter → Bool
-late letters.A = false
-late letters.B = false
-late letters.C = false
-late letters.D = false
-late letters.E = false
-late letters.F = false
-late letters.G = false
-late letters.H = false
-late letters.I = false
-late letters.J = false
-late letters.K = false
-late letters.L = false
-late letters.M = false
-late letters.N = true
-late letters.O = true
-late letters.P = true
-late letters.Q = true
-late letters.R = true
-late letters.S = true
-late letters.T = true
-late letters.U = true
-late letters.«V» = true
-late letters.W = true
-late letters.X = true
-late letters.Y = true
-late letters.Z = true

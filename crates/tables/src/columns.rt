@@ -4,10 +4,12 @@ use algo::gated;
 use algo::plain_sum;
 use letter::Letter;
 ghost use mathlib.Core.Path.{_≡_};
-ghost use lib.Dec.{T};
+ghost use Prim.Native.Nat.{_≤_};
+ghost use denote.Enum.Declared.{tagOf};
 ghost use Rattle.common.specs.Outcome.{orNan};
 ghost use Rattle.algo.specs.Table.{sumRule, term};
-ghost use Rattle.tables.specs.Summed.{summed, late};
+ghost use Rattle.letter.proofs.Letter.{the-type};
+ghost use Rattle.tables.specs.Summed.{summed};
 
 // v3a(p,T)
 const I3A: [i32; 30] = [
@@ -2818,7 +2820,7 @@ const N3Z: [f64; 23] = [
 
 // The same for the letters from n on.
 fn later_sum(l: Letter, x: f64, y: f64) -> f64
-    requires { ⌜ T (late l) ⌝ }
+    requires { ⌜ 13 ≤ tagOf the-type l ⌝ }
     ensures { λ r. ⌜ r ≡ orNan (sumRule term x y (summed l)) ⌝ }
 {
     let mut wi = [0.0; 129];

@@ -1,19 +1,18 @@
 -- `algo::part_at` meets its contract. The invariant: what is left of the rows, added to the sum so far, is what it was at the start. Assumes nothing.
-use mathlib.Core.Path.{_≡_, refl, sym, _∙_}
+use mathlib.Core.Path.{_≡_, refl, _∙_}
 use Prim.Native.Nat.{ℕ, _-_, _≤_}
 use native.Mathlib.Omega.{arith}
 use lib.Dec.{T}
 use lib.IntN.{pos}
 use lib.Ieee.{Float, ofBits}
-use lib.ListN.{length, getD}
-use Rattle.common.specs.Outcome.{zeroF}
+use lib.ListN.{getD}
 use Rattle.common.specs.Sum.{rawTotal, every}
 use Rattle.algo.specs.Table.{rowsOf, rowsFrom}
 use Rattle.algo.specs.Raw.{rawDerived}
 use Rattle.algo.specs.Dense.{Stocked}
 use Rattle.algo.specs.Reach.{covers, widest}
 use Rattle.algo.specs.declared.Reach.{Reach}
-use Rattle.algo.proofs.Loops.{Within, one-more, none-left, every-at, back}
+use Rattle.algo.proofs.Loops.{Within, one-more, every-at, back}
 use Rattle.algo.proofs.items.part_at.Statement.{statement}
 use Rattle.algo.proofs.items.part_at.Tie as tie
 

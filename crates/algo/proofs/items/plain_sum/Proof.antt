@@ -1,10 +1,9 @@
 -- `algo::plain_sum` meets its contract. The invariant: what is left of the rows, added to the sum so far, is the whole sum. Assumes nothing.
 use mathlib.Core.Path.{_≡_, refl, sym, _∙_}
-use Prim.Native.Nat.{ℕ, _+_, _-_, _≤_}
+use Prim.Native.Nat.{_+_, _-_}
 use native.Mathlib.Omega.{arith}
 use lib.Dec.{T}
 use lib.Ieee.{Float, ofBits}
-use lib.ListN.{length}
 use borrow.Author.Needs.{needs}
 use Rattle.common.specs.Outcome.{zeroF}
 use Rattle.common.specs.Sum.{rawTotal, every}
@@ -61,10 +60,12 @@ returns c =
     let l = c .before in
     let s = l .before .before in
     let a = s .args in
-    λ vi vj r st t.
-    sym
-    (l .loop .inv vi vj r st t
-    ∙ none-left (rawDerived Zero Zero vi vj) (l .loop .sum) (a .is .now) (a .js .now) (a .ns .now) (l .loop .start) (s .pre .0) (c .loop-test .left))
+    record {
+      over = λ vi vj r st t.
+          sym
+          (l .loop .inv vi vj r st t
+          ∙ none-left (rawDerived Zero Zero vi vj) (l .loop .sum) (a .is .now) (a .js .now) (a .ns .now) (l .loop .start) (s .pre .0) (c .loop-test .left));
+    }
 
 pub plain-sum-spec : {M : Type 1} → statement M
 plain-sum-spec =

@@ -1,6 +1,5 @@
 -- `algo::sum_at` meets its contract: a part that is the whole. Assumes nothing.
 use mathlib.Core.Path.{sym, _∙_}
-use Prim.Native.Nat.{_≤_}
 use native.Mathlib.Omega.{arith}
 use lib.Ieee.{ofBits}
 use lib.ListN.{length}
@@ -19,8 +18,10 @@ unfolding ofBits
 returns c =
     let s = c .before .before in
     let a = s .args in
-    λ vi vj r st t.
-    sym (c .part-at .ensures vi vj r st t ∙ none-left (rawDerived (a .a) (a .b) vi vj) (c .part-at .result) (now (a .is)) (now (a .js)) (now (a .ns)) (length (now (a .ns))) (s .pre .0) (omega arith))
+    record {
+      over = λ vi vj r st t.
+          sym (c .part-at .ensures vi vj r st t ∙ none-left (rawDerived (a .a) (a .b) vi vj) (c .part-at .result) (now (a .is)) (now (a .js)) (now (a .ns)) (length (now (a .ns))) (s .pre .0) (omega arith));
+    }
 
 pub sum-at-spec : {M : Type 1} → statement M
 sum-at-spec = tie.close (tie.spec part-at-requires returns)

@@ -27,9 +27,7 @@ returns c =
     let x = c .before in
     let t = x .before .before .before in
     let s = t .before .before .before .before in
-    let a = s .args in
-    let rows = rowsOf (now (a .is)) (now (a .js)) (now (a .ns)) in
-    constant-sum (a .a) (a .b) (a .vi) (a .vj) (a .reach) _ _ rows _ _ (s .pre .2) (t .stock .ensures refl refl) (x .sum-at .ensures) (c .gated .ensures)
+    constant-sum (s .pre .2) (t .stock .ensures refl refl) (x .sum-at .ensures) (c .gated .ensures)
 
 pub const-slope-spec : {M : Type 1} → statement M
 const-slope-spec = tie.close (tie.spec stock-requires sum-at-requires gated-requires returns)

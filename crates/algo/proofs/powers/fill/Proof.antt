@@ -27,13 +27,16 @@ fill-down-requires : tie.Need-fill-down-requires
 fill-down-requires c κs = search needs
 
 returns : tie.Need-returns
-returns c = λ e.
+returns c =
     let j = c .before .before .before .before .before in
     let a = j .before .args in
     let t = top-is j in
     let top = j .if1 .top in
-    filled-part (a .a) (c .fill-down .last .1 .0) (64 - a .down) (65 + top) (64 - a .down) (65 + a .up) (omega arith) (omega arith)
-    (c .fill-down .ensures (a .a) (65 + top) (omega arith) (c .before .before .fill-up .ensures e))
+    record {
+      stand = λ e.
+          filled-part (a .a) (c .fill-down .last .1 .0) (64 - a .down) (65 + top) (64 - a .down) (65 + a .up) (omega arith) (omega arith)
+          (c .fill-down .ensures (a .a) (65 + top) (omega arith) (c .before .before .fill-up .ensures e));
+    }
 
 pub fill-spec : {M : Type 1} → statement M
 fill-spec = tie.close (tie.spec fill-up-requires fill-down-requires returns)

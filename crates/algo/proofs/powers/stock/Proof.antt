@@ -13,7 +13,7 @@ fill-requires-2 : tie.Need-fill-requires-2
 fill-requires-2 c κs = let r = rooms (c .before .before .before) in (r .up-j, r .down-j)
 
 returns : tie.Need-returns
-returns c = λ p q. record { i = c .before .before .fill .ensures p; j = c .fill2 .ensures q }
+returns c = λ p q. record { i = c .before .before .fill .ensures .stand p; j = c .fill2 .ensures .stand q }
 
 pub stock-spec : {M : Type 1} → statement M
 stock-spec = tie.close (tie.spec fill-requires fill-requires-2 returns)

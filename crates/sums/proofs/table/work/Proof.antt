@@ -4,14 +4,8 @@ use borrow.Author.Needs.{needs}
 use Rattle.sums.proofs.table.work.Statement.{statement}
 use Rattle.sums.proofs.table.work.Tie as tie
 
-exponents-requires : tie.Need-exponents-requires
-exponents-requires c κs = search needs
-
-exponents-requires-2 : tie.Need-exponents-requires-2
-exponents-requires-2 c κs = search needs
-
-coefficients-requires : tie.Need-coefficients-requires
-coefficients-requires c κs = search needs
+columns-requires : tie.Need-columns-requires
+columns-requires c κs = search needs
 
 column-rows-requires : tie.Need-column-rows-requires
 column-rows-requires c κs = search needs
@@ -50,9 +44,7 @@ pub work-spec : {M : Type 1} → statement M
 work-spec =
     tie.close
     (tie.spec
-    exponents-requires
-    exponents-requires-2
-    coefficients-requires
+    columns-requires
     column-rows-requires
     column-rows-requires-2
     column-rows-requires-3

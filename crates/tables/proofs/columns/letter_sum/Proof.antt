@@ -1,142 +1,34 @@
 -- `tables::letter_sum` meets its contract: antt computes that the columns are the table's, the bits of each literal those of its decimal.
 -- Assumes nothing.
-use Prim.Native.Nat.{ℕ}
 use mathlib.Core.Path.{refl}
+use mathlib.Core.List.{[], _∷_}
 use lib.Ieee.{ofBits}
 use borrow.Author.Needs.{needs}
 use Rattle.common.specs.Sum.{every}
 use Rattle.common.specs.Decimal.{more, less, scaled}
 use Rattle.algo.specs.Table.{rowsOf}
-use Rattle.algo.specs.declared.Order.the-variants.{Zero}
-use Rattle.algo.specs.declared.Reach.{Reach}
-use Rattle.algo.proofs.Constant.{constant-sum}
+use Rattle.algo.proofs.Constant.{table-sum}
 use Rattle.tables.specs.Printed.{table3a, table3b, table3c, table3d, table3e, table3f, table3g, table3h, table3i, table3j, table3k, table3l, table3m}
-use Rattle.tables.proofs.Halves.{half}
+use Rattle.tables.specs.Summed.{summed}
+use Rattle.tables.proofs.Halves.{from}
 use Rattle.tables.proofs.columns.letter_sum.Statement.{statement}
 use Rattle.tables.proofs.columns.letter_sum.Tie as tie
 
-abbrev reach : ℕ → ℕ → ℕ → ℕ → Reach
-reach up-i down-i up-j down-j = record { «up_i» = up-i; «down_i» = down-i; «up_j» = up-j; «down_j» = down-j }
+-- the letters from n on
+later-sum-requires : tie.Need-later-sum-requires
+unfolding every
+later-sum-requires c κs = from 13 13 (14 ∷ 15 ∷ 16 ∷ 17 ∷ 18 ∷ 19 ∷ 20 ∷ 21 ∷ 22 ∷ 23 ∷ 24 ∷ 25 ∷ []) _ tt (c .match .keys14)
 
-returns : tie.Need-returns
-unfolding rowsOf every more less scaled ofBits table3a
-returns c =
-    let p = c .before in
-    let j = p .before .before .before .before .before .before in
-    let i = j .before .before in
-    rw (i .before .before .enum-told .given .1)
-    (constant-sum Zero Zero _ _ (reach 2 12 12 0) _ _ _ _ _ tt (record { i = i .fill .ensures refl; j = j .fill2 .ensures refl }) (p .plain-sum .ensures) (c .gated .ensures))
-
-returns-2 : tie.Need-returns-2
-unfolding rowsOf every more less scaled ofBits table3b
-returns-2 c =
-    let p = c .before in
-    let j = p .before .before .before .before .before .before in
-    let i = j .before .before in
-    rw (i .before .before .enum-told2 .given .1)
-    (constant-sum Zero Zero _ _ (reach 4 12 14 0) _ _ _ _ _ tt (record { i = i .fill3 .ensures refl; j = j .fill4 .ensures refl }) (p .plain-sum2 .ensures) (c .gated2 .ensures))
-
-returns-3 : tie.Need-returns-3
-unfolding rowsOf every more less scaled ofBits table3c
-returns-3 c =
-    let p = c .before in
-    let j = p .before .before .before .before .before .before in
-    let i = j .before .before in
-    rw (i .before .before .enum-told3 .given .1)
-    (constant-sum Zero Zero _ _ (reach 8 12 10 0) _ _ _ _ _ tt (record { i = i .fill5 .ensures refl; j = j .fill6 .ensures refl }) (p .plain-sum3 .ensures) (c .gated3 .ensures))
-
-returns-4 : tie.Need-returns-4
-unfolding rowsOf every more less scaled ofBits table3d
-returns-4 c =
-    let p = c .before in
-    let j = p .before .before .before .before .before .before in
-    let i = j .before .before in
-    rw (i .before .before .enum-told4 .given .1)
-    (constant-sum Zero Zero _ _ (reach 3 12 16 0) _ _ _ _ _ tt (record { i = i .fill7 .ensures refl; j = j .fill8 .ensures refl }) (p .plain-sum4 .ensures) (c .gated4 .ensures))
-
-returns-5 : tie.Need-returns-5
-unfolding rowsOf every more less scaled ofBits table3e
-returns-5 c =
-    let p = c .before in
-    let j = p .before .before .before .before .before .before in
-    let i = j .before .before in
-    rw (i .before .before .enum-told5 .given .1)
-    (constant-sum Zero Zero _ _ (reach 2 12 16 0) _ _ _ _ _ tt (record { i = i .fill9 .ensures refl; j = j .fill10 .ensures refl }) (p .plain-sum5 .ensures) (c .gated5 .ensures))
-
-returns-6 : tie.Need-returns-6
-unfolding rowsOf every more less scaled ofBits table3f
-returns-6 c =
-    let p = c .before in
-    let j = p .before .before .before .before .before .before in
-    let i = j .before .before in
-    rw (i .before .before .enum-told6 .given .1)
-    (constant-sum Zero Zero _ _ (reach 32 0 3 12) _ _ _ _ _ tt (record { i = i .fill11 .ensures refl; j = j .fill12 .ensures refl }) (p .plain-sum6 .ensures) (c .gated6 .ensures))
-
-returns-7 : tie.Need-returns-7
-unfolding rowsOf every more less scaled ofBits table3g
-returns-7 c =
-    let p = c .before in
-    let j = p .before .before .before .before .before .before in
-    let i = j .before .before in
-    rw (i .before .before .enum-told7 .given .1)
-    (constant-sum Zero Zero _ _ (reach 10 12 24 0) _ _ _ _ _ tt (record { i = i .fill13 .ensures refl; j = j .fill14 .ensures refl }) (p .plain-sum7 .ensures) (c .gated7 .ensures))
-
-returns-8 : tie.Need-returns-8
-unfolding rowsOf every more less scaled ofBits table3h
-returns-8 c =
-    let p = c .before in
-    let j = p .before .before .before .before .before .before in
-    let i = j .before .before in
-    rw (i .before .before .enum-told8 .given .1)
-    (constant-sum Zero Zero _ _ (reach 1 12 16 0) _ _ _ _ _ tt (record { i = i .fill15 .ensures refl; j = j .fill16 .ensures refl }) (p .plain-sum8 .ensures) (c .gated8 .ensures))
-
-returns-9 : tie.Need-returns-9
-unfolding rowsOf every more less scaled ofBits table3i
-returns-9 c =
-    let p = c .before in
-    let j = p .before .before .before .before .before .before in
-    let i = j .before .before in
-    rw (i .before .before .enum-told9 .given .1)
-    (constant-sum Zero Zero _ _ (reach 36 0 12 12) _ _ _ _ _ tt (record { i = i .fill17 .ensures refl; j = j .fill18 .ensures refl }) (p .plain-sum9 .ensures) (c .gated9 .ensures))
-
-returns-10 : tie.Need-returns-10
-unfolding rowsOf every more less scaled ofBits table3j
-returns-10 c =
-    let p = c .before in
-    let j = p .before .before .before .before .before .before in
-    let i = j .before .before in
-    rw (i .before .before .enum-told10 .given .1)
-    (constant-sum Zero Zero _ _ (reach 28 0 3 12) _ _ _ _ _ tt (record { i = i .fill19 .ensures refl; j = j .fill20 .ensures refl }) (p .plain-sum10 .ensures) (c .gated10 .ensures))
-
-returns-11 : tie.Need-returns-11
-unfolding rowsOf every more less scaled ofBits table3k
-returns-11 c =
-    let p = c .before in
-    let j = p .before .before .before .before .before .before in
-    let i = j .before .before in
-    rw (i .before .before .enum-told11 .given .1)
-    (constant-sum Zero Zero _ _ (reach 12 2 14 12) _ _ _ _ _ tt (record { i = i .fill21 .ensures refl; j = j .fill22 .ensures refl }) (p .plain-sum11 .ensures) (c .gated11 .ensures))
-
+-- the first 42 rows of letter l
 returns-12 : tie.Need-returns-12
 unfolding rowsOf every more less scaled ofBits table3l
 returns-12 c =
-    let p = c .before in
-    let j = p .before .before .before .before .before .before .before .before .before in
+    let j = c .before .before .before .before .before .before .before .before .before .before in
     let i = j .before .before in
-    rw (i .before .before .enum-told12 .given .1)
-    (constant-sum Zero Zero _ _ (reach 14 12 36 0) _ _ _ _ _ tt (record { i = i .fill23 .ensures refl; j = j .fill24 .ensures refl }) (p .plain-sum12 .ensures) (c .gated12 .ensures))
-
-returns-13 : tie.Need-returns-13
-unfolding rowsOf every more less scaled ofBits table3m
-returns-13 c =
-    let p = c .before in
-    let j = p .before .before .before .before .before .before in
-    let i = j .before .before in
-    rw (i .before .before .enum-told13 .given .1)
-    (constant-sum Zero Zero _ _ (reach 28 0 36 0) _ _ _ _ _ tt (record { i = i .fill25 .ensures refl; j = j .fill26 .ensures refl }) (p .plain-sum13 .ensures) (c .gated13 .ensures))
+    table-sum summed (i .before .before .enum-told12 .given .1) (i .fill23 .ensures) (j .fill24 .ensures) (c .before .plain-sum12 .ensures) (c .gated12 .ensures) refl refl tt refl
 
 pub letter-sum-spec : {M : Type 1} → statement M
-unfolding rowsOf every
+unfolding rowsOf every more less scaled ofBits table3a table3b table3c table3d table3e table3f table3g table3h table3i table3j table3k table3l table3m
 letter-sum-spec =
     tie.close
     (tie.spec
@@ -166,5 +58,5 @@ letter-sum-spec =
     (λ c. search needs) (λ c. search needs) (λ c. search needs) (λ c. search needs) (λ c. search needs) (λ c. search needs) (λ c. search needs) (λ c. search needs) (λ c. search needs) (λ c κs. (refl, refl, tt)) (λ c κs. search needs)
     (λ c. search needs) (λ c κs. search needs) (λ c κs. search needs)
     (λ c. search needs) (λ c. search needs) (λ c. search needs) (λ c κs. (refl, refl, tt)) (λ c κs. search needs)
-    (λ c κs. half (c .before .args .l) .is-late (c .match .keys14))
-    returns returns-2 returns-3 returns-4 returns-5 returns-6 returns-7 returns-8 returns-9 returns-10 returns-11 returns-12 returns-13 (λ c. c .later-sum .ensures))
+    later-sum-requires
+    (λ c. search (table-sum summed)) (λ c. search (table-sum summed)) (λ c. search (table-sum summed)) (λ c. search (table-sum summed)) (λ c. search (table-sum summed)) (λ c. search (table-sum summed)) (λ c. search (table-sum summed)) (λ c. search (table-sum summed)) (λ c. search (table-sum summed)) (λ c. search (table-sum summed)) (λ c. search (table-sum summed)) returns-12 (λ c. search (table-sum summed)) (λ c. c .later-sum .ensures))
