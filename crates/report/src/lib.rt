@@ -1,6 +1,9 @@
 // What the programs that hold the port to stored answers share: counts, and lines on standard output.
 use libc::STDOUT_FILENO;
+ghost use mathlib.Core.Path.{_≡_};
+ghost use Rattle.common.specs.Outcome.{pick};
 ghost use Rattle.io.specs.Counts.{Counts};
+ghost use Rattle.report.specs.Tally.{next, counted, withRow};
 
 // How many differing rows are named.
 const SHOWN: u64 = 10;
@@ -13,12 +16,16 @@ pub struct Tally {
 }
 
 // One more, up to the highest number.
-pub fn more(n: u64) -> u64 {
+pub fn more(n: u64) -> u64
+    ensures { λ r. ⌜ r ≡ next n ⌝ }
+{
     if n < u64::MAX { n + 1 } else { n }
 }
 
 // One more of a kind, if there is such a kind.
-fn count(counts: &mut [u64], kind: u8) {
+fn count(counts: &mut [u64], kind: u8)
+    ensures { λ _. ⌜ now (counts .exit) ≡ counted kind (now (counts .entry)) ⌝ }
+{
     let k = kind as usize;
     if k < counts.len() {
         counts[k] = more(counts[k]);
@@ -42,7 +49,10 @@ fn say_differs(t: Tally) {
 }
 
 // A list with one more row, counted under its kind too. The first rows that differ are named.
-pub fn judged(t: Tally, kind: u8, agrees: bool, rows: &mut [u64], differ: &mut [u64]) -> Tally {
+pub fn judged(t: Tally, kind: u8, agrees: bool, rows: &mut [u64], differ: &mut [u64]) -> Tally
+    ensures { λ r. ⌜ (r ≡ withRow agrees t) × (now (rows .exit) ≡ counted kind (now (rows .entry)))
+        × (now (differ .exit) ≡ pick agrees (now (differ .entry)) (counted kind (now (differ .entry)))) ⌝ }
+{
     count(rows, kind);
     if agrees {
         return Tally {
