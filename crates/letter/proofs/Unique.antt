@@ -8,6 +8,8 @@ use Rattle.letter.specs.declared.Choice.{Choice}
 use Rattle.letter.specs.declared.Choice.the-variants.{Taken, Refused}
 use Rattle.letter.proofs.ascii.Kinds as ascii-kinds
 use Rattle.letter.proofs.ascii.Reads as ascii
+use Rattle.letter.proofs.of_byte.Kinds as of-byte-kinds
+use Rattle.letter.proofs.of_byte.Reads as of-byte
 use Rattle.letter.proofs.letter_byte.Kinds as letter-byte-kinds
 use Rattle.letter.proofs.letter_byte.Reads as letter-byte
 use Rattle.letter.proofs.refusal_byte.Kinds as refusal-byte-kinds
@@ -27,6 +29,9 @@ same-choice = same chosen choiceOf choice-back
 
 pub ascii-one : One 0 ascii-kinds.ps ascii-kinds.r ascii.Post
 ascii-one κs a e x y p q = p ∙ sym q
+
+pub of-byte-one : One 0 of-byte-kinds.ps of-byte-kinds.r of-byte.Post
+of-byte-one κs a e x y p q = p ∙ sym q
 
 pub letter-byte-one : One 0 letter-byte-kinds.ps letter-byte-kinds.r letter-byte.Post
 letter-byte-one κs a e x y p q = p ∙ sym q

@@ -1,5 +1,7 @@
 -- The byte of each letter, and the outcome of a choice. Assumes nothing: these are definitions.
-use Prim.Native.Nat.{ℕ}
+use Prim.Native.Nat.{ℕ, _-_}
+use mathlib.Core.List.{List, [], _∷_}
+use lib.ListN.{getD}
 use Rattle.common.specs.Outcome.{Outcome, value, refused}
 use Rattle.common.specs.Answer.{numberOf}
 use Rattle.letter.specs.declared.Letter.{Letter}
@@ -35,6 +37,17 @@ asciiOf letters.W = 119
 asciiOf letters.X = 120
 asciiOf letters.Y = 121
 asciiOf letters.Z = 122
+
+-- in order
+abbrev pub alphabet : List Letter
+alphabet =
+    letters.A ∷ letters.B ∷ letters.C ∷ letters.D ∷ letters.E ∷ letters.F ∷ letters.G ∷ letters.H ∷ letters.I ∷ letters.J ∷ letters.K ∷ letters.L ∷ letters.M
+    ∷ letters.N ∷ letters.O ∷ letters.P ∷ letters.Q ∷ letters.R ∷ letters.S ∷ letters.T ∷ letters.U ∷ letters.«V» ∷ letters.W ∷ letters.X ∷ letters.Y ∷ letters.Z
+    ∷ []
+
+-- the letter of a byte, and a for a byte that is none's
+abbrev pub ofByte : ℕ → Letter
+ofByte b = getD alphabet (b - 97) letters.A
 
 -- the paper's number and value for each case of a choice
 abbrev pub chosen : Choice → Outcome Letter

@@ -3,7 +3,7 @@ use common::Refusal;
 use common::number;
 ghost use mathlib.Core.Path.{_≡_};
 ghost use Rattle.common.specs.Outcome.{numberIn};
-ghost use Rattle.letter.specs.Letter.{asciiOf, chosen, byteIn};
+ghost use Rattle.letter.specs.Letter.{asciiOf, ofByte, chosen, byteIn};
 
 // A subregion of S05rev.
 pub enum Letter {
@@ -72,6 +72,45 @@ pub fn ascii(l: Letter) -> u8
         Letter::Y => b'y',
         Letter::Z => b'z',
     }
+}
+
+// The letter of a byte, and a for a byte that is none's.
+pub fn of_byte(b: u8) -> Letter
+    ensures { λ r. ⌜ r ≡ ofByte b ⌝ }
+{
+    let alphabet = [
+        Letter::A,
+        Letter::B,
+        Letter::C,
+        Letter::D,
+        Letter::E,
+        Letter::F,
+        Letter::G,
+        Letter::H,
+        Letter::I,
+        Letter::J,
+        Letter::K,
+        Letter::L,
+        Letter::M,
+        Letter::N,
+        Letter::O,
+        Letter::P,
+        Letter::Q,
+        Letter::R,
+        Letter::S,
+        Letter::T,
+        Letter::U,
+        Letter::V,
+        Letter::W,
+        Letter::X,
+        Letter::Y,
+        Letter::Z,
+    ];
+    if b < 97 {
+        return Letter::A;
+    }
+    let k = (b - 97) as usize;
+    if k < 26 { alphabet[k] } else { Letter::A }
 }
 
 // The letter's byte, or 0 where there is none.

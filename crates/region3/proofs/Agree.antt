@@ -14,7 +14,7 @@ use Rattle.boundary.specs.Choice.{letterAt, letterRule}
 use Rattle.volume.specs.Equation.{volumeAt}
 use Rattle.volume.specs.declared.Origin.{Origin}
 use Rattle.volume.specs.declared.Origin.the-variants.{Subregion, Critical}
-use Rattle.volume.specs.Found.{State, byteOf, stateOf, atCritical, foundAt, foundRule}
+use Rattle.volume.specs.Found.{State, byteOf, stateOf, atCritical, originAt, originRule, stateBy, foundRule}
 use Rattle.helmholtz.specs.Record.{recordSteps, recordAfter, pressureFrom}
 use Rattle.helmholtz.specs.Td.{Td2h, Td2s, Td2u, Td2cv, Td2cp, Td2w}
 use Rattle.helmholtz.specs.declared.Record.{Record}
@@ -50,10 +50,14 @@ density-is p t r e =
 origin-is : (o : Origin) (q : Outcome Float) (s : State) → stateOf o q ≡ value s → s .origin ≡ o
 origin-is o q s e = went-on q _ s _ e (λ v _ e₁. went-on (densityOf (value v)) _ s _ e₁ (λ d _ e₂. cc))
 
-found-by : (p t : Float) (b : Bool) → atCritical p t ≡ value b
-    → foundAt p t ≡ pick b (stateOf Critical (value (whole 1) ⊘ value DC-WATER)) (then (letterAt p t) (λ l. stateOf (Subregion l) (volumeAt l p t)))
-unfolding foundAt
-found-by p t b f = rw f
+state-is : (o : Origin) (p t : Float) (s : State) → stateBy o p t ≡ value s → s .origin ≡ o
+unfolding stateBy
+state-is (Subregion l) p t s e = origin-is (Subregion l) (volumeAt l p t) s e
+state-is Critical p t s e = origin-is Critical (value (whole 1) ⊘ value DC-WATER) s e
+
+origin-by : (p t : Float) (b : Bool) → atCritical p t ≡ value b → originAt p t ≡ pick b (value Critical) (then (letterAt p t) (λ l. value (Subregion l)))
+unfolding originAt
+origin-by p t b f = rw f
 
 letter-by : (p t : Float) (u : Unit) (l : Letter) → pairRule P-FROM P-TO p T-FROM T-TO t ≡ value u → letterAt p t ≡ value l → letterRule p t ≡ value l
 unfolding letterRule
@@ -66,15 +70,20 @@ module _ (p t : Float) (s : State) (accepted : foundRule p t ≡ value s) where
 
   -- wherever the column run accepts a row that is not the critical point's, its letter is the letter choice's
   pub letter-is : atCritical p t ≡ value false → letterIn p t ≡ byteIn (letterRule p t)
-  unfolding foundRule
+  unfolding foundRule originRule
   letter-is f =
-      went-on (pairRule P-FROM P-TO p T-FROM T-TO t) _ s _ accepted (λ u box e.
-      went-on (letterAt p t) (λ l. stateOf (Subregion l) (volumeAt l p t)) s _ (sym (found-by p t false f) ∙ e) (λ l h e₁.
-      byte-is ∙ ap byteOf (origin-is (Subregion l) (volumeAt l p t) s e₁) ∙ sym (ap byteIn (letter-by p t u l box h))))
+      went-on (originRule p t) _ s _ accepted (λ o g e.
+      went-on (pairRule P-FROM P-TO p T-FROM T-TO t) _ o _ g (λ u box e₁.
+      went-on (letterAt p t) (λ l. value (Subregion l)) o _ (sym (origin-by p t false f) ∙ e₁) (λ l h e₂.
+      let i : s .origin ≡ Subregion l = state-is o p t s e ∙ (cc) in
+      byte-is ∙ ap byteOf i ∙ sym (ap byteIn (letter-by p t u l box h)))))
 
   -- at the critical point there is none
   pub critical-is : atCritical p t ≡ value true → letterIn p t ≡ 0
-  unfolding foundRule
+  unfolding foundRule originRule
   critical-is f =
-      went-on (pairRule P-FROM P-TO p T-FROM T-TO t) _ s _ accepted (λ _ _ e.
-      byte-is ∙ ap byteOf (origin-is Critical (value (whole 1) ⊘ value DC-WATER) s (sym (found-by p t true f) ∙ e)))
+      went-on (originRule p t) _ s _ accepted (λ o g e.
+      went-on (pairRule P-FROM P-TO p T-FROM T-TO t) _ o _ g (λ _ _ e₁.
+      let h : value Critical ≡ value o = sym (origin-by p t true f) ∙ e₁ in
+      let i : s .origin ≡ Critical = state-is o p t s e ∙ (cc) in
+      byte-is ∙ ap byteOf i))

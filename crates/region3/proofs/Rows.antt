@@ -51,6 +51,20 @@ module _ {A : Type 0} (f : Float → Float → A) (d : A) where
         ext-getD d xs (rowsBy f ps ts) (w .long ∙ sym (rows-length ps ts e))
         (λ i l. let lp : i < length ps = let q = w .long in omega arith in w .each i (omega arith) ∙ sym (rows-at ps ts i lp (omega arith)))
 
+  -- the rows from k on hold what an earlier turn left
+  pub record Left (ps ts : List Float) (k : ℕ) (xs : List A) : Type 0 where
+    pub each : (i : ℕ) → k ≤ i → i < length ps → getD xs i d ≡ f (getD ps i nan) (getD ts i nan)
+
+  module _ (ps ts : List Float) where
+    pub left-all : (xs : List A) → length ts ≡ length ps → xs ≡ rowsBy f ps ts → Left ps ts 0 xs
+    left-all xs e h = record { each = λ i _ l. rw h (rows-at ps ts i l (omega arith)) }
+
+    pub left-less : (k : ℕ) (xs : List A) (v : A) → Left ps ts k xs → Left ps ts (k + 1) (set xs k v)
+    left-less k xs v w = record { each = λ i h l. getD-set-other xs k i v d (λ q. let z : _≡_ {A = ℕ} i k = q in absurd (omega arith)) ∙ w .each i (omega arith) l }
+
+  pub rows-long : (ps ts : List Float) (xs : List A) → length ts ≡ length ps → xs ≡ rowsBy f ps ts → length xs ≡ length ps
+  rows-long ps ts xs e h = ap length h ∙ rows-length ps ts e
+
 -- ---- the lengths
 
 both-true : (a b : Bool) → both a b ≡ true → (a ≡ true) × (b ≡ true)

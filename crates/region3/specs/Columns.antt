@@ -5,9 +5,12 @@ use mathlib.Core.List.{List, [], _∷_}
 use lib.Dec.{eqb}
 use lib.ListN.{length}
 use lib.Ieee.{Float}
-use Rattle.common.specs.Outcome.{Outcome, value, refused, pick, zeroF}
+use Rattle.common.specs.Outcome.{Outcome, value, refused, numberIn, pick, zeroF}
 use Rattle.common.specs.Sum.{both}
-use Rattle.volume.specs.Found.{State, byteOf, foundRule}
+use Rattle.letter.specs.Letter.{asciiOf, ofByte}
+use Rattle.volume.specs.declared.Origin.{Origin}
+use Rattle.volume.specs.declared.Origin.the-variants.{Subregion, Critical}
+use Rattle.volume.specs.Found.{State, byteOf, originRule, stateBy, foundRule}
 use Rattle.region3.specs.declared.Line.{Line}
 
 -- a row of what (p,T) finds: the origin's byte and d; a refused row holds letter 0, +0.0 and its number
@@ -26,6 +29,32 @@ densityIn p t = rowRule p t .density
 
 abbrev pub refusalIn : Float → Float → ℕ
 refusalIn p t = rowRule p t .refusal
+
+-- ---- a row in two turns: where its volume comes from, then the volume
+
+-- what its letter byte holds in between: the letter, 1 at the critical point, 0 where the row is refused
+abbrev pub markBy : Origin → ℕ
+markBy (Subregion l) = asciiOf l
+markBy Critical = 1
+
+abbrev pub markOf : Outcome Origin → ℕ
+markOf (value o) = markBy o
+markOf (refused k) = 0
+
+abbrev pub ofMark : ℕ → Origin
+ofMark m = pick (eqb m 1) Critical (Subregion (ofByte m))
+
+abbrev pub markIn : Float → Float → ℕ
+markIn p t = markOf (originRule p t)
+
+abbrev pub stopIn : Float → Float → ℕ
+stopIn p t = numberIn (originRule p t)
+
+-- the row from its mark and its refusal so far
+unfoldable pub lineBy : ℕ → ℕ → Float → Float → Line
+lineBy m k p t = pick (eqb m 0) (lineIn (refused k)) (lineIn (stateBy (ofMark m) p t))
+
+-- ---- the columns
 
 -- row i from pair i alone
 unfoldable pub rowsBy : {A : Type 0} → (Float → Float → A) → List Float → List Float → List A

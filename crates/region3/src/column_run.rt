@@ -5,19 +5,68 @@ use common::MPa;
 use common::Refusal;
 use common::Verdict;
 use common::number;
+use letter::ascii;
+use letter::of_byte;
 use volume::Found;
-use volume::found_pT;
+use volume::Origin;
+use volume::Whence;
+use volume::found_by;
 use volume::origin_byte;
+use volume::origin_pT;
 ghost use mathlib.Core.Path.{_≡_};
 ghost use lib.ListN.{length};
+ghost use Rattle.common.specs.Outcome.{numberIn};
 ghost use Rattle.common.specs.Answer.{verdict};
-ghost use Rattle.region3.specs.Columns.{lent, same, rowRule, letterIn, densityIn, refusalIn, rowsBy, columnsRule};
+ghost use Rattle.volume.specs.Found.{whenceIn};
+ghost use Rattle.region3.specs.Columns.{lent, same, rowRule, markOf, ofMark, lineBy, markIn, stopIn, letterIn, densityIn, refusalIn, rowsBy, columnsRule};
 
-// One row, by the steps of (p,T) as far as d.
-pub fn row(p: MPa, t: Kelvin) -> Line
-    ensures { λ r. ⌜ r ≡ rowRule (p .0) (t .0) ⌝ }
+// The mark of a row at the critical point, which has no letter.
+const CRITICAL: u8 = 1;
+
+// What a row's letter byte holds until its density is worked: the letter, the critical point's mark, or 0 where the row is refused.
+fn mark(w: Whence) -> u8
+    ensures { λ r. ⌜ r ≡ markOf (whenceIn w) ⌝ }
 {
-    match found_pT(p, t) {
+    match w {
+        Whence::From(o) => match o {
+            Origin::Subregion(l) => ascii(l),
+            Origin::Critical => CRITICAL,
+        },
+        Whence::Refused(_) => 0,
+    }
+}
+
+// What its refusal byte holds until then.
+fn stop(w: Whence) -> u8
+    ensures { λ r. ⌜ r ≡ numberIn (whenceIn w) ⌝ }
+{
+    match w {
+        Whence::From(_) => 0,
+        Whence::Refused(k) => number(k),
+    }
+}
+
+fn of_mark(m: u8) -> Origin
+    ensures { λ r. ⌜ r ≡ ofMark m ⌝ }
+{
+    if m == CRITICAL {
+        return Origin::Critical;
+    }
+    Origin::Subregion(of_byte(m))
+}
+
+// The row from what its bytes hold until then.
+fn line_of(m: u8, k: u8, p: f64, t: f64) -> Line
+    ensures { λ r. ⌜ r ≡ lineBy m k p t ⌝ }
+{
+    if m == 0 {
+        return Line {
+            letter: 0,
+            density: 0.0,
+            refusal: k,
+        };
+    }
+    match found_by(of_mark(m), p, t) {
         Found::At(o, _, d) => Line {
             letter: origin_byte(o),
             density: d,
@@ -31,16 +80,40 @@ pub fn row(p: MPa, t: Kelvin) -> Line
     }
 }
 
-// Every row of columns of one length.
+// One row, by the steps of (p,T) as far as d.
+pub fn row(p: MPa, t: Kelvin) -> Line
+    ensures { λ r. ⌜ r ≡ rowRule (p .0) (t .0) ⌝ }
+{
+    let w = origin_pT(p, t);
+    line_of(mark(w), stop(w), p.0, t.0)
+}
+
+// The marks and the refusals so far of all rows. A processor need not wait here for one row's letter to begin with the next, and where
+// the densities are worked every letter is known.
+fn mark_rows(ps: &[f64], ts: &[f64], letters: &mut [u8], refusals: &mut [u8])
+    requires { ⌜ (length (now ts) ≡ length (now ps)) × (length (now letters) ≡ length (now ps)) × (length (now refusals) ≡ length (now ps)) ⌝ }
+    ensures { λ _. ⌜ now (letters .exit) ≡ rowsBy markIn (now (ps .entry)) (now (ts .entry)) ⌝ }
+    ensures { λ _. ⌜ now (refusals .exit) ≡ rowsBy stopIn (now (ps .entry)) (now (ts .entry)) ⌝ }
+{
+    let mut i = 0;
+    while i < ps.len() {
+        let w = origin_pT(MPa(ps[i]), Kelvin(ts[i]));
+        letters[i] = mark(w);
+        refusals[i] = stop(w);
+        i += 1;
+    }
+}
+
+// Every row of columns of one length, from its marks.
 fn fill_rows(ps: &[f64], ts: &[f64], letters: &mut [u8], densities: &mut [f64], refusals: &mut [u8])
-    requires { ⌜ (length (now ts) ≡ length (now ps)) × (length (now letters) ≡ length (now ps)) × (length (now densities) ≡ length (now ps)) × (length (now refusals) ≡ length (now ps)) ⌝ }
+    requires { ⌜ (length (now ts) ≡ length (now ps)) × (length (now densities) ≡ length (now ps)) × (now letters ≡ rowsBy markIn (now ps) (now ts)) × (now refusals ≡ rowsBy stopIn (now ps) (now ts)) ⌝ }
     ensures { λ _. ⌜ now (letters .exit) ≡ rowsBy letterIn (now (ps .entry)) (now (ts .entry)) ⌝ }
     ensures { λ _. ⌜ now (densities .exit) ≡ rowsBy densityIn (now (ps .entry)) (now (ts .entry)) ⌝ }
     ensures { λ _. ⌜ now (refusals .exit) ≡ rowsBy refusalIn (now (ps .entry)) (now (ts .entry)) ⌝ }
 {
     let mut i = 0;
     while i < ps.len() {
-        let line = row(MPa(ps[i]), Kelvin(ts[i]));
+        let line = line_of(letters[i], refusals[i], ps[i], ts[i]);
         letters[i] = line.letter;
         densities[i] = line.density;
         refusals[i] = line.refusal;
@@ -78,6 +151,7 @@ pub fn columns(
         densities.len(),
         refusals.len(),
     ) {
+        mark_rows(ps, ts, letters, refusals);
         fill_rows(ps, ts, letters, densities, refusals);
         return Verdict::Accepted;
     }

@@ -18,6 +18,8 @@ use Rattle.volume.specs.declared.Origin.{Origin}
 use Rattle.volume.specs.declared.Origin.the-variants.{Subregion, Critical}
 use Rattle.volume.specs.declared.Found.{Found}
 use Rattle.volume.specs.declared.Found.the-variants.{At, Refused}
+use Rattle.volume.specs.declared.Whence.{Whence}
+use Rattle.volume.specs.declared.Whence.the-variants as whence
 use Rattle.volume.specs.declared.Phase.{Phase}
 use Rattle.volume.specs.declared.Phase.the-variants.{Liquid, Steam}
 
@@ -31,6 +33,10 @@ pub record State : Type 0 where
 abbrev pub foundIn : Found → Outcome State
 foundIn (At o v d) = value (record { origin = o; v = v; d = d })
 foundIn (Refused k) = refused (numberOf k)
+
+abbrev pub whenceIn : Whence → Outcome Origin
+whenceIn (whence.From o) = value o
+whenceIn (whence.Refused k) = refused (numberOf k)
 
 -- the byte of an origin in a column: a letter's, or 0 for the critical-point answer
 abbrev pub byteOf : Origin → ℕ
@@ -57,16 +63,22 @@ atCritical p t = then (near t TC-WATER T-TOL) (λ b. pick b (near p PC-WATER P-T
 
 -- ---- the calls
 
--- the volume and density at p and t, inside another call
-unfoldable pub foundAt : Float → Float → Outcome State
-foundAt p t =
-    then (atCritical p t) (λ critical.
-    pick critical (stateOf Critical (value (whole 1) ⊘ value DC-WATER))
-    (then (letterAt p t) (λ l. stateOf (Subregion l) (volumeAt l p t))))
+-- where the volume at p and t comes from, inside another call
+unfoldable pub originAt : Float → Float → Outcome Origin
+originAt p t = then (atCritical p t) (λ critical. pick critical (value Critical) (then (letterAt p t) (λ l. value (Subregion l))))
+
+unfoldable pub originRule : Float → Float → Outcome Origin
+unfolding originAt
+originRule p t = then (pairRule P-FROM P-TO p T-FROM T-TO t) (λ _. originAt p t)
+
+-- the state by its origin
+unfoldable pub stateBy : Origin → Float → Float → Outcome State
+stateBy (Subregion l) p t = stateOf (Subregion l) (volumeAt l p t)
+stateBy Critical p t = stateOf Critical (value (whole 1) ⊘ value DC-WATER)
 
 unfoldable pub foundRule : Float → Float → Outcome State
-unfolding foundAt
-foundRule p t = then (pairRule P-FROM P-TO p T-FROM T-TO t) (λ _. foundAt p t)
+unfolding originRule stateBy
+foundRule p t = then (originRule p t) (λ o. stateBy o p t)
 
 unfoldable pub pT2v-reg3Rule : Float → Float → Outcome Float
 unfolding foundRule

@@ -5,8 +5,10 @@ use letter::Letter;
 mod region3_v_pT;
 mod region3_v_subregion_pT;
 
+pub use region3_v_pT::found_by;
 pub use region3_v_pT::found_pT;
 pub use region3_v_pT::origin_byte;
+pub use region3_v_pT::origin_pT;
 pub use region3_v_pT::pT2v_3subreg;
 pub use region3_v_pT::pT2v_reg3;
 pub use region3_v_pT::pT2v_sat_reg3;
@@ -31,6 +33,12 @@ pub enum Equation {
 pub enum Origin {
     Subregion(Letter),
     Critical,
+}
+
+// Where a (p,T) call takes its volume from.
+pub enum Whence {
+    From(Origin),
+    Refused(Refusal),
 }
 
 // What (p,T) finds: the origin of the volume, the volume and the density.

@@ -2,6 +2,7 @@
 use crate::Found;
 use crate::Origin;
 use crate::Phase;
+use crate::Whence;
 use crate::region3_v_subregion_pT::raw_volume;
 use boundary::sub_region3_pT;
 use common::Answer;
@@ -30,7 +31,7 @@ ghost use Rattle.common.specs.Outcome.{value, check};
 ghost use Rattle.common.specs.Constant.{P-FROM, P-TO, T-FROM, T-TO};
 ghost use Rattle.common.specs.Range.{pairRule};
 ghost use Rattle.common.specs.Answer.{paper};
-ghost use Rattle.volume.specs.Found.{foundIn, byteOf, stateOf, sizeOf, atCritical, foundAt, foundRule, pT2v-reg3Rule, pT2v-3subregRule, saturatedLetter, pT2v-sat-reg3Rule};
+ghost use Rattle.volume.specs.Found.{foundIn, whenceIn, byteOf, stateOf, sizeOf, atCritical, originAt, originRule, stateBy, foundRule, pT2v-reg3Rule, pT2v-3subregRule, saturatedLetter, pT2v-sat-reg3Rule};
 
 // The byte of an origin in a column: a letter's, or 0 at the critical point.
 pub fn origin_byte(o: Origin) -> u8
@@ -74,17 +75,37 @@ fn at_critical(p: f64, t: f64) -> bool
     false
 }
 
-// The answer at the critical point, or that of the letter's equation. p and t have passed the box.
-fn found_at(p: MPa, t: Kelvin) -> Found
+// The critical point, or the letter. p and t have passed the box.
+fn origin_at(p: MPa, t: Kelvin) -> Whence
     requires { ⌜ pairRule P-FROM P-TO (p .0) T-FROM T-TO (t .0) ≡ value tt ⌝ }
-    ensures { λ r. ⌜ foundIn r ≡ foundAt (p .0) (t .0) ⌝ }
+    ensures { λ r. ⌜ whenceIn r ≡ originAt (p .0) (t .0) ⌝ }
 {
     if at_critical(p.0, t.0) {
-        return found(Origin::Critical, 1.0 / DC_WATER);
+        return Whence::From(Origin::Critical);
     }
     match sub_region3_pT(p, t) {
-        Choice::Taken(l) => found(Origin::Subregion(l), raw_volume(l, p.0, t.0)),
-        Choice::Refused(k) => Found::Refused(k),
+        Choice::Taken(l) => Whence::From(Origin::Subregion(l)),
+        Choice::Refused(k) => Whence::Refused(k),
+    }
+}
+
+// Where the volume at (p,T) comes from.
+pub fn origin_pT(p: MPa, t: Kelvin) -> Whence
+    ensures { λ r. ⌜ whenceIn r ≡ originRule (p .0) (t .0) ⌝ }
+{
+    match check_pT(p, t) {
+        Verdict::Accepted => origin_at(p, t),
+        Verdict::Refused(k) => Whence::Refused(k),
+    }
+}
+
+// The volume and its density by their origin.
+pub fn found_by(o: Origin, p: f64, t: f64) -> Found
+    ensures { λ r. ⌜ foundIn r ≡ stateBy o p t ⌝ }
+{
+    match o {
+        Origin::Subregion(l) => found(Origin::Subregion(l), raw_volume(l, p, t)),
+        Origin::Critical => found(Origin::Critical, 1.0 / DC_WATER),
     }
 }
 
@@ -92,9 +113,9 @@ fn found_at(p: MPa, t: Kelvin) -> Found
 pub fn found_pT(p: MPa, t: Kelvin) -> Found
     ensures { λ r. ⌜ foundIn r ≡ foundRule (p .0) (t .0) ⌝ }
 {
-    match check_pT(p, t) {
-        Verdict::Accepted => found_at(p, t),
-        Verdict::Refused(k) => Found::Refused(k),
+    match origin_pT(p, t) {
+        Whence::From(o) => found_by(o, p.0, t.0),
+        Whence::Refused(k) => Found::Refused(k),
     }
 }
 

@@ -1,22 +1,30 @@
 -- `region3::column_run::columns` meets its contract. Assumes nothing.
-use mathlib.Core.Path.{sym, _∙_}
+use mathlib.Core.Path.{_≡_, sym, _∙_}
+use lib.ListN.{length}
 use borrow.Author.Needs.{needs}
 use Rattle.region3.specs.Columns.{columnsRule}
 use Rattle.region3.proofs.Rows.{same-all}
 use Rattle.region3.proofs.column_run.columns.Statement.{statement}
 use Rattle.region3.proofs.column_run.columns.Tie as tie
 
+one-length : (t : tie.Then1) → let a = t .before .before .before .before .before .before .before .args in let n = length (a .ps .now) in
+    (length (a .ts .now) ≡ n) × (length (a .letters .now) ≡ n) × (length (a .densities .now) ≡ n) × (length (a .refusals .now) ≡ n)
+one-length t = same-all _ _ _ _ _ (sym (t .before .same-length .ensures) ∙ t .if1 .taken)
+
+mark-rows-requires : tie.Need-mark-rows-requires
+mark-rows-requires c κs = let q = one-length (c .before .before) in (q .0, q .1, q .3)
+
 fill-rows-requires : tie.Need-fill-rows-requires
 fill-rows-requires c κs =
-    let t = c .before .before .before in
-    same-all _ _ _ _ _ (sym (t .before .same-length .ensures) ∙ t .if1 .taken)
+    let w = c .before .before .before .before .before .before .before .mark-rows .ensures in
+    let q = one-length (c .before .before .before .before .before .before .before .before .before .before) in
+    (q .0, q .2, w .0, w .1)
 
 returns : tie.Need-returns
 unfolding columnsRule
 returns c =
-    let f = c .before .before .before .before .before .before in
-    let t = f .before .before .before .before in
-    let w = f .fill-rows .ensures in
+    let w = c .before .before .before .before .before .before .fill-rows .ensures in
+    let t = c .before .before .before .before .before .before .before .before .before .before .before .before .before .before .before .before .before in
     rw (sym (t .before .same-length .ensures) ∙ t .if1 .taken, w .0, w .1 .0, w .1 .1)
 
 returns-2 : tie.Need-returns-2
@@ -28,6 +36,7 @@ columns-spec =
     tie.close
     (tie.spec
     (λ c κs. search needs)
+    mark-rows-requires
     fill-rows-requires
     (λ c. search needs)
     (λ c. search needs)

@@ -1,23 +1,27 @@
--- `volume::found_pT` meets its contract: the box, then the steps. Assumes nothing.
-use mathlib.Core.Path.{sym, ap, _∙_}
+-- `volume::found_pT` meets its contract: the origin, then the state. Assumes nothing.
+use mathlib.Core.Path.{_≡_, sym, ap, _∙_}
 use borrow.Author.Needs.{needs}
-use Rattle.common.specs.Answer.{verdict}
-use Rattle.common.proofs.Calls.{going-on, turned-away}
-use Rattle.volume.specs.Found.{foundRule}
+use Rattle.common.specs.Outcome.{Outcome, then}
+use Rattle.volume.specs.declared.Origin.{Origin}
+use Rattle.volume.specs.declared.Whence.{Whence}
+use Rattle.volume.specs.Found.{whenceIn, stateBy, foundRule}
 use Rattle.volume.proofs.region3_v_pT.found_pT.Statement.{statement}
 use Rattle.volume.proofs.region3_v_pT.found_pT.Tie as tie
 
-found-at-requires : tie.Need-found-at-requires
-found-at-requires c κs = sym (c .before .before .check-pT .ensures) ∙ ap verdict (c .enum-told .given .1)
+-- the rule, from the origin that was found
+answered : (c : tie.After-origin-pT) (w : Whence) → c .origin-pT .result ≡ w
+    → foundRule (c .before .args .p .0) (c .before .args .t .0) ≡ then (whenceIn w) (λ o. stateBy o (c .before .args .p .0) (c .before .args .t .0))
+unfolding foundRule
+answered c w e =
+    let a = c .before .args in
+    ap (λ (q : Outcome Origin). then q (λ o. stateBy o (a .p .0) (a .t .0))) (sym (c .origin-pT .ensures) ∙ ap whenceIn e)
 
 returns : tie.Need-returns
-unfolding foundRule
-returns c = c .found-at .ensures ∙ sym (going-on (c .before .before .before .check-pT .ensures) _ (c .before .enum-told .given .1))
+returns c = c .found-by .ensures ∙ sym (answered (c .before .before .before .before) _ (c .before .before .o .given .1))
 
 returns-2 : tie.Need-returns-2
-unfolding foundRule
-returns-2 c = sym (turned-away (c .before .before .before .check-pT .ensures) _ _ (c .before .k .given .1))
+returns-2 c = sym (answered (c .before .before .before) _ (c .before .k .given .1))
 
 pub found-pT-spec : {M : Type 1} → statement M
 found-pT-spec =
-    tie.close (tie.spec (λ c κs. search needs) (λ c. search needs) found-at-requires (λ c. search needs) returns returns-2)
+    tie.close (tie.spec (λ c κs. search needs) (λ c. search needs) (λ c κs. search needs) (λ c. search needs) returns returns-2)

@@ -1,32 +1,28 @@
--- `volume::found_at` meets its contract: the critical point, then the letter's equation. Assumes nothing.
+-- `volume::origin_at` meets its contract: the critical point, then the letter. Assumes nothing.
 use mathlib.Core.Path.{_≡_, sym, ap, _∙_}
 use mathlib.Core.Bool.{true, false}
-use lib.Ieee.{ofBits, round}
 use borrow.Author.Needs.{needs}
 use Rattle.common.specs.Outcome.{value, then}
-use Rattle.common.specs.Decimal.{decimal, whole, scaled}
 use Rattle.letter.specs.Letter.{chosen}
 use Rattle.letter.specs.declared.Choice.{Choice}
 use Rattle.boundary.specs.Choice.{letterAt, letterRule}
 use Rattle.volume.specs.declared.Origin.the-variants.{Subregion}
-use Rattle.volume.specs.Equation.{volumeAt}
-use Rattle.volume.specs.Found.{stateOf, atCritical, foundAt}
-use Rattle.volume.proofs.region3_v_pT.found_at.Statement.{statement}
-use Rattle.volume.proofs.region3_v_pT.found_at.Tie as tie
+use Rattle.volume.specs.Found.{atCritical, originAt}
+use Rattle.volume.proofs.region3_v_pT.origin_at.Statement.{statement}
+use Rattle.volume.proofs.region3_v_pT.origin_at.Tie as tie
 
 returns : tie.Need-returns
-unfolding foundAt ofBits decimal whole scaled round
+unfolding originAt
 returns c =
-    let s = c .before .before in
+    let s = c .before in
     let a = s .before .args in
-    let b : atCritical (a .p .0) (a .t .0) ≡ value true = sym (s .at-critical .ensures) ∙ ap value (c .before .if1 .taken) in
-    rw b (c .found .ensures)
+    let b : atCritical (a .p .0) (a .t .0) ≡ value true = sym (s .at-critical .ensures) ∙ ap value (c .if1 .taken) in
+    rw b
 
 -- the rule where the point is not critical, from the letter that was chosen
 chosen-by : (c : tie.After-sub-region3-pT) (k : Choice) → c .sub-region3-pT .result ≡ k
-    → foundAt (c .before .before .before .args .p .0) (c .before .before .before .args .t .0)
-    ≡ then (chosen k) (λ l. stateOf (Subregion l) (volumeAt l (c .before .before .before .args .p .0) (c .before .before .before .args .t .0)))
-unfolding foundAt letterRule
+    → originAt (c .before .before .before .args .p .0) (c .before .before .before .args .t .0) ≡ then (chosen k) (λ l. value (Subregion l))
+unfolding originAt letterRule
 chosen-by c k e =
     let s = c .before .before in
     let a = s .before .args in
@@ -36,26 +32,19 @@ chosen-by c k e =
     rw (b, h)
 
 returns-2 : tie.Need-returns-2
-returns-2 c =
-    let k = c .before .before .before in
-    c .found2 .ensures
-    ∙ ap (stateOf (Subregion (k .l .given .0 .0))) (c .before .raw-volume .ensures)
-    ∙ sym (chosen-by (k .before .before) _ (k .l .given .1))
+returns-2 c = sym (chosen-by (c .before .before .before) _ (c .before .l .given .1))
 
 returns-3 : tie.Need-returns-3
 returns-3 c = sym (chosen-by (c .before .before .before) _ (c .before .k .given .1))
 
-pub found-at-spec : {M : Type 1} → statement M
-found-at-spec =
+pub origin-at-spec : {M : Type 1} → statement M
+origin-at-spec =
     tie.close
     (tie.spec
-    (λ c κs. search needs)
     (λ c κs. search needs)
     returns
     (λ c κs. search needs)
     (λ c. search needs)
-    (λ c κs. search needs)
-    (λ c κs. search needs)
     (λ c. search needs)
     returns-2
     returns-3)

@@ -1,0 +1,69 @@
+-- `region3::column_run::mark_rows` meets its contract: after i turns the first i rows of each column are written. Assumes nothing.
+use Prim.Native.Nat.{_≤_, _<_, _-_}
+use mathlib.Core.Path.{ap, _∙_}
+use native.Mathlib.Omega.{arith}
+use lib.ListN.{length}
+use borrow.Author.Needs.{needs}
+use Rattle.common.specs.Outcome.{Outcome, numberIn}
+use Rattle.volume.specs.declared.Origin.{Origin}
+use Rattle.region3.specs.Columns.{markOf, markIn, stopIn}
+use Rattle.region3.proofs.Rows.{Filled, filled-none, filled-more, filled-all}
+use Rattle.region3.proofs.column_run.mark_rows.Statement.{statement}
+use Rattle.region3.proofs.column_run.mark_rows.Tie as tie
+
+abbrev Inv-loop : tie.InvT-loop
+Inv-loop ps ts letters₀ refusals₀ i₀ letters refusals i = (i ≤ length ps) × Filled markIn 0 ps ts i letters × Filled stopIn 0 ps ts i refusals
+
+abbrev μ-loop : tie.MeasureT-loop
+μ-loop ps ts letters₀ refusals₀ i₀ letters refusals i = length ps - i
+
+loop-holds : tie.Need-loop-holds Inv-loop μ-loop
+loop-holds c =
+    let s = c .before .before .before .before in
+    let a = s .args in
+    (omega arith, filled-none markIn 0 (a .ps .now) (a .ts .now) (a .letters .now) (s .pre .1), filled-none stopIn 0 (a .ps .now) (a .ts .now) (a .refusals .now) (s .pre .2))
+
+loop-again : tie.Need-loop-again Inv-loop μ-loop
+loop-again c =
+    let l = c .before .before .before .before .before .before in
+    let a = l .before .before .before .before .before .args in
+    let i = l .loop .i in
+    let h : i < length (a .ps .now) = omega arith in
+    let e = c .before .before .origin-pT .ensures in (
+      omega arith,
+      filled-more markIn 0 (a .ps .now) (a .ts .now) i (l .loop .letters) (c .before .mark .result) h (l .loop .inv .1) (c .before .mark .ensures ∙ ap markOf e),
+      filled-more stopIn 0 (a .ps .now) (a .ts .now) i (l .loop .refusals) (c .stop .result) h (l .loop .inv .2) (c .stop .ensures ∙ ap (λ (q : Outcome Origin). numberIn q) e),
+    )
+
+returns : tie.Need-returns Inv-loop μ-loop
+returns c =
+    let l = c .before in
+    let s = l .before .before .before .before .before in
+    let a = s .args in
+    let i = l .loop .i in (
+      filled-all markIn 0 (a .ps .now) (a .ts .now) i (l .loop .letters) (s .pre .0) (c .loop-test .left) (l .loop .inv .1),
+      filled-all stopIn 0 (a .ps .now) (a .ts .now) i (l .loop .refusals) (s .pre .0) (c .loop-test .left) (l .loop .inv .2),
+    )
+
+pub mark-rows-spec : {M : Type 1} → statement M
+mark-rows-spec =
+    tie.close
+    (tie.spec
+    Inv-loop
+    μ-loop
+    loop-holds
+    (λ c. omega arith)
+    (λ c. omega arith)
+    (λ c. omega arith)
+    (λ c. omega arith)
+    (λ c κs. search needs)
+    (λ c κs. search needs)
+    (λ c. omega arith)
+    (λ c κs. search needs)
+    (λ c. omega arith)
+    (λ c. omega arith)
+    (λ c. omega arith)
+    loop-again
+    (λ c. omega arith)
+    (λ c. omega arith)
+    returns)
