@@ -169,7 +169,8 @@ fn band_cq_rk(p: f64, t: f64) -> Choice
     Choice::Refused(Refusal::Step)
 }
 
-fn letter_at(p: f64, t: f64) -> Choice
+// The letter by the bands alone, for a caller that has tested the box.
+pub fn letter_at(p: f64, t: f64) -> Choice
     ensures { λ r. ⌜ chosen r ≡ letterAt p t ⌝ }
 {
     if p > 40.0 {

@@ -3,6 +3,7 @@ mod bands;
 mod letter_by;
 mod lines;
 
+pub use bands::letter_at;
 pub use bands::sub_region3_pT;
 pub use lines::T_atRegionBoundary;
 

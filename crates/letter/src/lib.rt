@@ -78,39 +78,34 @@ pub fn ascii(l: Letter) -> u8
 pub fn of_byte(b: u8) -> Letter
     ensures { λ r. ⌜ r ≡ ofByte b ⌝ }
 {
-    let alphabet = [
-        Letter::A,
-        Letter::B,
-        Letter::C,
-        Letter::D,
-        Letter::E,
-        Letter::F,
-        Letter::G,
-        Letter::H,
-        Letter::I,
-        Letter::J,
-        Letter::K,
-        Letter::L,
-        Letter::M,
-        Letter::N,
-        Letter::O,
-        Letter::P,
-        Letter::Q,
-        Letter::R,
-        Letter::S,
-        Letter::T,
-        Letter::U,
-        Letter::V,
-        Letter::W,
-        Letter::X,
-        Letter::Y,
-        Letter::Z,
-    ];
-    if b < 97 {
-        return Letter::A;
+    match b {
+        b'b' => Letter::B,
+        b'c' => Letter::C,
+        b'd' => Letter::D,
+        b'e' => Letter::E,
+        b'f' => Letter::F,
+        b'g' => Letter::G,
+        b'h' => Letter::H,
+        b'i' => Letter::I,
+        b'j' => Letter::J,
+        b'k' => Letter::K,
+        b'l' => Letter::L,
+        b'm' => Letter::M,
+        b'n' => Letter::N,
+        b'o' => Letter::O,
+        b'p' => Letter::P,
+        b'q' => Letter::Q,
+        b'r' => Letter::R,
+        b's' => Letter::S,
+        b't' => Letter::T,
+        b'u' => Letter::U,
+        b'v' => Letter::V,
+        b'w' => Letter::W,
+        b'x' => Letter::X,
+        b'y' => Letter::Y,
+        b'z' => Letter::Z,
+        _ => Letter::A,
     }
-    let k = (b - 97) as usize;
-    if k < 26 { alphabet[k] } else { Letter::A }
 }
 
 // The letter's byte, or 0 where there is none.

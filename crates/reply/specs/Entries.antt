@@ -1,5 +1,5 @@
 -- What each entry point answers, by its number: the library's own rules, a group to a module. Assumes nothing: these are definitions.
-use Prim.Native.Nat.{ℕ, _-_}
+use Prim.Native.Nat.{ℕ}
 use mathlib.Core.List.{List, [], _∷_}
 use lib.Dec.{eqb, leb, ltb}
 use lib.IntN.{ℤ}
@@ -14,8 +14,7 @@ use Rattle.boundary.specs.declared.Boundary.{Boundary}
 use Rattle.boundary.specs.declared.Boundary.the-variants.{Ab, Cd, Ef, Gh, Ij, Jk, Mn, Op, Qu, Rx, Uv, Wx}
 use Rattle.boundary.specs.Boundary.{boundaryRule}
 use Rattle.boundary.specs.Choice.{letterRule}
-use Rattle.letter.specs.declared.Letter.{Letter}
-use Rattle.letter.specs.declared.Letter.the-variants as letters
+use Rattle.letter.specs.Letter.{ofByte}
 use Rattle.volume.specs.declared.Phase.the-variants.{Liquid, Steam}
 use Rattle.volume.specs.Found.{pT2v-reg3Rule, pT2v-3subregRule, pT2v-sat-reg3Rule}
 use Rattle.backward.specs.Backward.{ph2T-reg3Rule, ph2v-reg3Rule, ps2T-reg3Rule, ps2v-reg3Rule, hs2p-reg3Rule}
@@ -51,16 +50,10 @@ linesReply entry n a b =
     (pick (eqb entry 8) (letterOf (letterRule a b)) unknown)))
 
 -- a volume equation by its letter's ASCII
-abbrev pub alphabet : List Letter
-alphabet =
-    letters.A ∷ letters.B ∷ letters.C ∷ letters.D ∷ letters.E ∷ letters.F ∷ letters.G ∷ letters.H ∷ letters.I ∷ letters.J ∷ letters.K ∷ letters.L ∷ letters.M
-    ∷ letters.N ∷ letters.O ∷ letters.P ∷ letters.Q ∷ letters.R ∷ letters.S ∷ letters.T ∷ letters.U ∷ letters.«V» ∷ letters.W ∷ letters.X ∷ letters.Y ∷ letters.Z
-    ∷ []
-
 unfoldable pub letterReply : ℤ → Float → Float → Reply
 letterReply n p t =
     pick (ltb (placeOf n) 97) unknown
-    (named alphabet letters.A (placeOf n - 97) (λ l. oneOf (pT2v-3subregRule p t l)))
+    (pick (ltb (placeOf n) 123) (oneOf (pT2v-3subregRule p t (ofByte (placeOf n)))) unknown)
 
 -- a side of the saturation line by its number
 unfoldable pub phaseReply : ℤ → Float → Float → Reply

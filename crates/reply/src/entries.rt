@@ -15,7 +15,7 @@ use common::KJPerKgK;
 use common::Kelvin;
 use common::KgPerM3;
 use common::MPa;
-use letter::Letter;
+use letter::of_byte;
 use volume::Phase;
 use volume::pT2v_3subreg;
 use volume::pT2v_reg3;
@@ -83,37 +83,8 @@ fn by_letter(n: i32, p: f64, t: f64) -> Reply
     if k < 97 {
         return refused(UNKNOWN);
     }
-    let j = k - 97;
-    if j < 26 {
-        let alphabet = [
-            Letter::A,
-            Letter::B,
-            Letter::C,
-            Letter::D,
-            Letter::E,
-            Letter::F,
-            Letter::G,
-            Letter::H,
-            Letter::I,
-            Letter::J,
-            Letter::K,
-            Letter::L,
-            Letter::M,
-            Letter::N,
-            Letter::O,
-            Letter::P,
-            Letter::Q,
-            Letter::R,
-            Letter::S,
-            Letter::T,
-            Letter::U,
-            Letter::V,
-            Letter::W,
-            Letter::X,
-            Letter::Y,
-            Letter::Z,
-        ];
-        let l = alphabet[j];
+    if k < 123 {
+        let l = of_byte(k as u8);
         return one(pT2v_3subreg(MPa(p), Kelvin(t), l));
     }
     refused(UNKNOWN)

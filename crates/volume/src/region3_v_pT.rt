@@ -4,7 +4,7 @@ use crate::Origin;
 use crate::Phase;
 use crate::Whence;
 use crate::region3_v_subregion_pT::raw_volume;
-use boundary::sub_region3_pT;
+use boundary::letter_at;
 use common::Answer;
 use common::DC_WATER;
 use common::Kelvin;
@@ -83,7 +83,7 @@ fn origin_at(p: MPa, t: Kelvin) -> Whence
     if at_critical(p.0, t.0) {
         return Whence::From(Origin::Critical);
     }
-    match sub_region3_pT(p, t) {
+    match letter_at(p.0, t.0) {
         Choice::Taken(l) => Whence::From(Origin::Subregion(l)),
         Choice::Refused(k) => Whence::Refused(k),
     }

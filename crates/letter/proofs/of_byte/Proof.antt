@@ -1,19 +1,31 @@
 -- `letter::of_byte` meets its contract. Assumes nothing.
-use mathlib.Core.Path.{_≡_, sym}
-use Prim.Native.Nat.{_-_}
+use Prim.Native.Nat.{ℕ, _-_, _≤_, _<_}
+use mathlib.Core.Path.{_≡_, refl, sym}
+use mathlib.Core.Bool.{Bool, true, false}
 use native.Mathlib.Omega.{arith}
+use lib.Dec.{ltb}
 use lib.ListN.{List·getD-eq-default}
-use borrow.Author.Needs.{needs}
+use borrow.Author.Tests.{ltb-true, ltb-false}
 use Rattle.letter.specs.declared.Letter.the-variants.{A}
-use Rattle.letter.specs.Letter.{alphabet}
+use Rattle.letter.specs.Letter.{alphabet, ofByte}
+use Rattle.letter.proofs.Arms.{arm, NoneOf, beyond}
 use Rattle.letter.proofs.of_byte.Statement.{statement}
 use Rattle.letter.proofs.of_byte.Tie as tie
 
-returns : tie.Need-returns
-returns c = let e : c .before .args .b - 97 ≡ 0 = omega arith in rw e
+below : (b : ℕ) → b < 98 → A ≡ ofByte b
+below b h = let e : b - 97 ≡ 0 = omega arith in rw e
 
-returns-3 : tie.Need-returns-3
-returns-3 c = sym (List·getD-eq-default alphabet A (c .if2 .left))
+above : (b : ℕ) → 123 ≤ b → A ≡ ofByte b
+above b h = let l : 26 ≤ b - 97 = omega arith in sym (List·getD-eq-default alphabet A l)
+
+-- a byte that is none of the letters from b on
+rest : (b : ℕ) (low : Bool) → ltb b 98 ≡ low → NoneOf 25 98 b → A ≡ ofByte b
+rest b true h r = below b (ltb-true b 98 h)
+rest b false h r = above b (beyond 25 98 b r (ltb-false b 98 h))
 
 pub of-byte-spec : {M : Type 1} → statement M
-of-byte-spec = tie.close (tie.spec returns (λ c. search needs) (λ c. search needs) (λ c. search needs) returns-3)
+of-byte-spec =
+    tie.close
+    (tie.spec
+    (λ c. search (arm ofByte)) (λ c. search (arm ofByte)) (λ c. search (arm ofByte)) (λ c. search (arm ofByte)) (λ c. search (arm ofByte)) (λ c. search (arm ofByte)) (λ c. search (arm ofByte)) (λ c. search (arm ofByte)) (λ c. search (arm ofByte)) (λ c. search (arm ofByte)) (λ c. search (arm ofByte)) (λ c. search (arm ofByte)) (λ c. search (arm ofByte)) (λ c. search (arm ofByte)) (λ c. search (arm ofByte)) (λ c. search (arm ofByte)) (λ c. search (arm ofByte)) (λ c. search (arm ofByte)) (λ c. search (arm ofByte)) (λ c. search (arm ofByte)) (λ c. search (arm ofByte)) (λ c. search (arm ofByte)) (λ c. search (arm ofByte)) (λ c. search (arm ofByte)) (λ c. search (arm ofByte))
+    (λ c. rest (c .before .args .b) _ refl (c .match .rest)))

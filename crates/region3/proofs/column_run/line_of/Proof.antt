@@ -22,7 +22,7 @@ answered c f e =
     let s = c .before .before in
     let a = s .before .args in
     let h : foundIn f ≡ stateBy (ofMark (a .m)) (a .p) (a .t) =
-        sym (ap foundIn e) ∙ c .found-by .ensures ∙ ap (λ (o : Origin). stateBy o (a .p) (a .t)) (c .before .of-mark .ensures) in
+    sym (ap foundIn e) ∙ c .found-by .ensures ∙ ap (λ (o : Origin). stateBy o (a .p) (a .t)) (c .before .of-mark .ensures) in
     rw (ne-eqb (a .m) 0 (s .if1 .left)) (ap lineIn h)
 
 returns-2 : tie.Need-returns-2

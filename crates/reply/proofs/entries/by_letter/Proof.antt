@@ -1,9 +1,10 @@
 -- `reply::entries::by_letter` meets its contract. Assumes nothing.
 use mathlib.Core.Path.{_≡_, sym, ap, _∙_}
-use Prim.Native.Nat.{_-_}
 use mir.Syntax.{w32}
 use mir.ValLaws.{toZ-ofZ}
 use borrow.Author.Tests.{lt-ltb, le-ltb}
+use Rattle.letter.specs.declared.Letter.{Letter}
+use Rattle.volume.specs.Found.{pT2v-3subregRule}
 use Rattle.reply.specs.Shape.{oneOf, placeOf}
 use Rattle.reply.specs.Entries.{letterReply}
 use borrow.Author.Needs.{needs}
@@ -24,8 +25,11 @@ returns c =
     let e : k .result ≡ placeOf (s .args .n) = rw (toZ-ofZ w32 (s .args .n) (s .fits .n)) at (k .ensures) in
     rw (sym e, lt-ltb (k .result) 97 (c .before .if1 .taken)) (c .refused .ensures)
 
-array-copy-out-l : tie.Need-array-copy-out-l
-array-copy-out-l c = search needs
+cast-of-byte : tie.Need-cast-of-byte
+cast-of-byte c = search needs
+
+of-byte-requires : tie.Need-of-byte-requires
+of-byte-requires c κs = search needs
 
 pT2v-3subreg-requires : tie.Need-pT2v-3subreg-requires
 pT2v-3subreg-requires c κs = search needs
@@ -39,7 +43,8 @@ returns-2 c =
     let s = c .before .before .before .before .before .before in
     let k = c .before .before .before .before .before .place in
     let e : k .result ≡ placeOf (s .args .n) = rw (toZ-ofZ w32 (s .args .n) (s .fits .n)) at (k .ensures) in
-    rw (sym e, le-ltb (k .result) 97 (c .before .before .before .before .if1 .left), lt-ltb (k .result - 97) 26 (c .before .before .before .if2 .taken)) (c .one .ensures ∙ ap oneOf (c .before .pT2v-3subreg .ensures))
+    rw (sym e, le-ltb (k .result) 97 (c .before .before .before .before .if1 .left), lt-ltb (k .result) 123 (c .before .before .before .if2 .taken))
+    (c .one .ensures ∙ ap oneOf (c .before .pT2v-3subreg .ensures ∙ ap (λ (l : Letter). pT2v-3subregRule (s .args .p) (s .args .t) l) (c .before .before .of-byte .ensures)))
 
 refused-requires-2 : tie.Need-refused-requires-2
 refused-requires-2 c κs = search needs
@@ -50,7 +55,7 @@ returns-3 c =
     let s = c .before .before .before .before in
     let k = c .before .before .before .place in
     let e : k .result ≡ placeOf (s .args .n) = rw (toZ-ofZ w32 (s .args .n) (s .fits .n)) at (k .ensures) in
-    rw (sym e, le-ltb (k .result) 97 (c .before .before .if1 .left), le-ltb (k .result - 97) 26 (c .before .if2 .left)) (c .refused2 .ensures)
+    rw (sym e, le-ltb (k .result) 97 (c .before .before .if1 .left), le-ltb (k .result) 123 (c .before .if2 .left)) (c .refused2 .ensures)
 
 pub by-letter-spec : {M : Type 1} → statement M
 by-letter-spec =
@@ -59,7 +64,8 @@ by-letter-spec =
     place-requires
     refused-requires
     returns
-    array-copy-out-l
+    cast-of-byte
+    of-byte-requires
     pT2v-3subreg-requires
     one-requires
     returns-2

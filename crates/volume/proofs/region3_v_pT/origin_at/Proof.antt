@@ -5,7 +5,7 @@ use borrow.Author.Needs.{needs}
 use Rattle.common.specs.Outcome.{value, then}
 use Rattle.letter.specs.Letter.{chosen}
 use Rattle.letter.specs.declared.Choice.{Choice}
-use Rattle.boundary.specs.Choice.{letterAt, letterRule}
+use Rattle.boundary.specs.Choice.{letterAt}
 use Rattle.volume.specs.declared.Origin.the-variants.{Subregion}
 use Rattle.volume.specs.Found.{atCritical, originAt}
 use Rattle.volume.proofs.region3_v_pT.origin_at.Statement.{statement}
@@ -20,15 +20,14 @@ returns c =
     rw b
 
 -- the rule where the point is not critical, from the letter that was chosen
-chosen-by : (c : tie.After-sub-region3-pT) (k : Choice) → c .sub-region3-pT .result ≡ k
+chosen-by : (c : tie.After-letter-at) (k : Choice) → c .letter-at .result ≡ k
     → originAt (c .before .before .before .args .p .0) (c .before .before .before .args .t .0) ≡ then (chosen k) (λ l. value (Subregion l))
-unfolding originAt letterRule
+unfolding originAt
 chosen-by c k e =
     let s = c .before .before in
     let a = s .before .args in
     let b : atCritical (a .p .0) (a .t .0) ≡ value false = sym (s .at-critical .ensures) ∙ ap value (c .before .if1 .left) in
-    let l : letterRule (a .p .0) (a .t .0) ≡ letterAt (a .p .0) (a .t .0) = rw (s .before .pre) in
-    let h : letterAt (a .p .0) (a .t .0) ≡ chosen k = sym l ∙ sym (c .sub-region3-pT .ensures) ∙ ap chosen e in
+    let h : letterAt (a .p .0) (a .t .0) ≡ chosen k = sym (c .letter-at .ensures) ∙ ap chosen e in
     rw (b, h)
 
 returns-2 : tie.Need-returns-2
