@@ -95,12 +95,12 @@ fn mark_rows(ps: &[f64], ts: &[f64], letters: &mut [u8], refusals: &mut [u8])
     ensures { λ _. ⌜ now (letters .exit) ≡ rowsBy markIn (now (ps .entry)) (now (ts .entry)) ⌝ }
     ensures { λ _. ⌜ now (refusals .exit) ≡ rowsBy stopIn (now (ps .entry)) (now (ts .entry)) ⌝ }
 {
-    let mut i = 0;
-    while i < ps.len() {
-        let w = origin_pT(MPa(ps[i]), Kelvin(ts[i]));
-        letters[i] = mark(w);
-        refusals[i] = stop(w);
-        i += 1;
+    let mut k = 0;
+    while k < ps.len() {
+        let w = origin_pT(MPa(ps[k]), Kelvin(ts[k]));
+        letters[k] = mark(w);
+        refusals[k] = stop(w);
+        k += 1;
     }
 }
 

@@ -1,4 +1,4 @@
--- `region3::column_run::mark_rows` meets its contract: after i turns the first i rows of each column are written. Assumes nothing.
+-- `region3::column_run::mark_rows` meets its contract: after k turns the first k rows of each column are written. Assumes nothing.
 use Prim.Native.Nat.{_≤_, _<_, _-_}
 use mathlib.Core.Path.{ap, _∙_}
 use native.Mathlib.Omega.{arith}
@@ -12,10 +12,10 @@ use Rattle.region3.proofs.column_run.mark_rows.Statement.{statement}
 use Rattle.region3.proofs.column_run.mark_rows.Tie as tie
 
 abbrev Inv-loop : tie.InvT-loop
-Inv-loop ps ts letters₀ refusals₀ i₀ letters refusals i = (i ≤ length ps) × Filled markIn 0 ps ts i letters × Filled stopIn 0 ps ts i refusals
+Inv-loop ps ts letters₀ refusals₀ k₀ letters refusals k = (k ≤ length ps) × Filled markIn 0 ps ts k letters × Filled stopIn 0 ps ts k refusals
 
 abbrev μ-loop : tie.MeasureT-loop
-μ-loop ps ts letters₀ refusals₀ i₀ letters refusals i = length ps - i
+μ-loop ps ts letters₀ refusals₀ k₀ letters refusals k = length ps - k
 
 loop-holds : tie.Need-loop-holds Inv-loop μ-loop
 loop-holds c =
@@ -27,12 +27,12 @@ loop-again : tie.Need-loop-again Inv-loop μ-loop
 loop-again c =
     let l = c .before .before .before .before .before .before in
     let a = l .before .before .before .before .before .args in
-    let i = l .loop .i in
-    let h : i < length (a .ps .now) = omega arith in
+    let k = l .loop .k in
+    let h : k < length (a .ps .now) = omega arith in
     let e = c .before .before .origin-pT .ensures in (
       omega arith,
-      filled-more markIn 0 (a .ps .now) (a .ts .now) i (l .loop .letters) (c .before .mark .result) h (l .loop .inv .1) (c .before .mark .ensures ∙ ap markOf e),
-      filled-more stopIn 0 (a .ps .now) (a .ts .now) i (l .loop .refusals) (c .stop .result) h (l .loop .inv .2) (c .stop .ensures ∙ ap (λ (q : Outcome Origin). numberIn q) e),
+      filled-more markIn 0 (a .ps .now) (a .ts .now) k (l .loop .letters) (c .before .mark .result) h (l .loop .inv .1) (c .before .mark .ensures ∙ ap markOf e),
+      filled-more stopIn 0 (a .ps .now) (a .ts .now) k (l .loop .refusals) (c .stop .result) h (l .loop .inv .2) (c .stop .ensures ∙ ap (λ (q : Outcome Origin). numberIn q) e),
     )
 
 returns : tie.Need-returns Inv-loop μ-loop
@@ -40,9 +40,9 @@ returns c =
     let l = c .before in
     let s = l .before .before .before .before .before in
     let a = s .args in
-    let i = l .loop .i in (
-      filled-all markIn 0 (a .ps .now) (a .ts .now) i (l .loop .letters) (s .pre .0) (c .loop-test .left) (l .loop .inv .1),
-      filled-all stopIn 0 (a .ps .now) (a .ts .now) i (l .loop .refusals) (s .pre .0) (c .loop-test .left) (l .loop .inv .2),
+    let k = l .loop .k in (
+      filled-all markIn 0 (a .ps .now) (a .ts .now) k (l .loop .letters) (s .pre .0) (c .loop-test .left) (l .loop .inv .1),
+      filled-all stopIn 0 (a .ps .now) (a .ts .now) k (l .loop .refusals) (s .pre .0) (c .loop-test .left) (l .loop .inv .2),
     )
 
 pub mark-rows-spec : {M : Type 1} → statement M
