@@ -1,0 +1,32 @@
+//! docs/SCOPE.md's call domain and refusal numbers.
+//! Both ends of a range count as inside.
+
+pub type Range = (f64, f64);
+
+pub const P_BOX: Range = (16.529, 100.0);
+pub const T_BOX: Range = (623.15, 863.15);
+pub const D_BOX: Range = (100.0, 800.0);
+pub const H_BOX: Range = (1500.0, 2900.0);
+pub const S_BOX: Range = (3.3, 5.3);
+
+/// On the saturation line p and T end at the critical point.
+pub const P_LINE: Range = (16.529, 22.064);
+pub const T_LINE: Range = (623.15, 647.096);
+
+/// The exponential's argument, and the power's exponent.
+pub const EXPONENT: Range = (-700.0, 700.0);
+pub const POWER: (i32, i32) = (-64, 64);
+
+pub const NOT_FINITE: u8 = 1;
+pub const FIRST: u8 = 2;
+pub const SECOND: u8 = 3;
+pub const STATE: u8 = 4;
+pub const STEP: u8 = 5;
+pub const PROPERTY: u8 = 6;
+
+/// No refusal of docs/SCOPE.md: the row names no entry, boundary, letter or phase.
+pub const NO_ENTRY: u8 = 255;
+
+pub fn outside(x: f64, range: Range) -> bool {
+    x < range.0 || x > range.1
+}
