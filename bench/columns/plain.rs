@@ -1,0 +1,285 @@
+// The plain Rust that the column run is measured against: docs/SCOPE.md's rules on columns of p and T, raw f64, hardware root, one finiteness
+// test a row. Straight code for the boundaries, one generic sum over tables of rows, powers by the written rule.
+#![allow(non_upper_case_globals)]
+
+mod tables {
+    include!(env!("TABLES"));
+}
+
+type Row = (i32, i32, f64);
+
+include!("../power.rs");
+
+fn logarithm(x: f64) -> f64 {
+    const L: f64 = 0.6931471805599453;
+    let bits = x.to_bits();
+    let (mut m, mut e) = (f64::from_bits(bits & 0xf_ffff_ffff_ffff | 0x3ff0_0000_0000_0000), (bits >> 52) as i32 - 1023);
+    if m >= 1.5 {
+        m *= 0.5;
+        e += 1;
+    }
+    let z = (m - 1.0) / (m + 1.0);
+    let y = z * z;
+    let mut q = 1.0 / 27.0;
+    for k in [25.0, 23.0, 21.0, 19.0, 17.0, 15.0, 13.0, 11.0, 9.0, 7.0, 5.0, 3.0, 1.0] {
+        q = q * y + 1.0 / k;
+    }
+    f64::from(e) * L + (2.0 * z) * q
+}
+
+fn exponential(x: f64) -> f64 {
+    const L: f64 = 0.6931471805599453;
+    if !(-700.0..=700.0).contains(&x) {
+        return f64::NAN;
+    }
+    const ROUND: f64 = 6755399441055744.0;
+    let k = (x / L + ROUND) - ROUND;
+    let r = x - k * L;
+    let mut s = 1.0;
+    for j in [14.0, 13.0, 12.0, 11.0, 10.0, 9.0, 8.0, 7.0, 6.0, 5.0, 4.0, 3.0, 2.0, 1.0] {
+        s = 1.0 + (r * s) / j;
+    }
+    s * f64::from_bits(((k as i64 + 1023) as u64) << 52)
+}
+
+fn sum(x: f64, y: f64, rows: &[Row]) -> f64 {
+    let mut v = 0.0;
+    for &(i, j, n) in rows {
+        v += n * power(x, i) * power(y, j);
+    }
+    v
+}
+
+fn t_saturation(p: f64) -> f64 {
+    const n: [f64; 10] = [
+        0.11670521452767E+04, -0.72421316703206E+06, -0.17073846940092E+02, 0.12020824702470E+05, -0.32325550322333E+07,
+        0.14915108613530E+02, -0.48232657361591E+04, 0.40511340542057E+06, -0.23855557567849E+00, 0.65017534844798E+03,
+    ];
+    let b = p.sqrt().sqrt();
+    let e = b * (b + n[2]) + n[5];
+    let f = b * (n[0] * b + n[3]) + n[6];
+    let g = b * (n[1] * b + n[4]) + n[7];
+    let d = 2.0 * g / (-f - (f * f - 4.0 * e * g).sqrt());
+    0.5 * (n[9] + d - ((n[9] + d) * (n[9] + d) - 4.0 * (n[8] + n[9] * d)).sqrt())
+}
+
+fn cubic(p: f64, n: [f64; 4]) -> f64 {
+    let p2 = p * p;
+    0.0 + n[0] + n[1] * p + n[2] * p2 + n[3] * (p * p2)
+}
+
+fn quartic(p: f64, n: [f64; 5]) -> f64 {
+    let p2 = p * p;
+    0.0 + n[0] + n[1] * p + n[2] * p2 + n[3] * (p * p2) + n[4] * (p2 * p2)
+}
+
+fn in_ln(p: f64, n: [f64; 5]) -> f64 {
+    let x = logarithm(p);
+    let x2 = x * x;
+    0.0 + n[0] + n[1] * x + n[2] * x2 + n[3] * (1.0 / x) + n[4] * (1.0 / x2)
+}
+
+fn ab(p: f64) -> f64 {
+    in_ln(p, [0.154793642129415e4, -0.187661219490113e3, 0.213144632222113e2, -0.191887498864292e4, 0.918419702359447e3])
+}
+fn cd(p: f64) -> f64 {
+    cubic(p, [0.585276966696349e3, 0.278233532206915e1, -0.127283549295878e-1, 0.159090746562729e-3])
+}
+fn ef(p: f64) -> f64 {
+    3.727888004 * (p - 22.064) + 647.096
+}
+fn gh(p: f64) -> f64 {
+    quartic(p, [-0.249284240900418e5, 0.428143584791546e4, -0.269029173140130e3, 0.751608051114157e1, -0.787105249910383e-1])
+}
+fn ij(p: f64) -> f64 {
+    quartic(p, [0.584814781649163e3, -0.616179320924617, 0.260763050899562, -0.587071076864459e-2, 0.515308185433082e-4])
+}
+fn jk(p: f64) -> f64 {
+    quartic(p, [0.617229772068439e3, -0.770600270141675e1, 0.697072596851896, -0.157391839848015e-1, 0.137897492684194e-3])
+}
+fn mn(p: f64) -> f64 {
+    cubic(p, [0.535339483742384e3, 0.761978122720128e1, -0.158365725441648, 0.192871054508108e-2])
+}
+fn op(p: f64) -> f64 {
+    in_ln(p, [0.969461372400213e3, -0.332500170441278e3, 0.642859598466067e2, 0.773845935768222e3, -0.152313732937084e4])
+}
+fn qu(p: f64) -> f64 {
+    cubic(p, [0.565603648239126e3, 0.529062258221222e1, -0.102020639611016, 0.122240301070145e-2])
+}
+fn rx(p: f64) -> f64 {
+    cubic(p, [0.584561202520006e3, -0.102961025163669e1, 0.243293362700452, -0.294905044740799e-2])
+}
+fn uv(p: f64) -> f64 {
+    cubic(p, [0.528199646263062e3, 0.890579602135307e1, -0.222814134903755, 0.286791682263697e-2])
+}
+fn wx(p: f64) -> f64 {
+    in_ln(p, [0.728052609145380e1, 0.973505869861952e2, 0.147370491183191e2, 0.329196213998375e3, 0.873371668682417e3])
+}
+
+fn near_critical(p: f64, t: f64) -> u8 {
+    if p > 22.11 {
+        if t <= uv(p) { b'u' } else if t < ef(p) { b'v' } else if t < wx(p) { b'w' } else { b'x' }
+    } else if p > 22.064 {
+        if t <= uv(p) { b'u' } else if t <= ef(p) { b'y' } else if t <= wx(p) { b'z' } else { b'x' }
+    } else if t <= t_saturation(p) {
+        if p > 21.93161551 && t >= uv(p) { b'y' } else { b'u' }
+    } else if p > 21.90096265 && t < wx(p) {
+        b'z'
+    } else {
+        b'x'
+    }
+}
+
+fn letter(p: f64, t: f64) -> u8 {
+    // p_saturation(643.15)
+    const LIMIT: f64 = f64::from_bits(0x40350b1a1ee0b6d0);
+    if p > 40.0 {
+        if t > ab(p) { b'b' } else { b'a' }
+    } else if p > 25.0 {
+        if t <= cd(p) { b'c' } else if t <= ab(p) { b'd' } else if t <= ef(p) { b'e' } else { b'f' }
+    } else if p > 23.0 {
+        if t <= cd(p) {
+            b'c'
+        } else if t <= gh(p) {
+            if p > 23.5 { b'g' } else { b'l' }
+        } else if t <= ef(p) {
+            b'h'
+        } else if t <= ij(p) {
+            b'i'
+        } else if t <= jk(p) {
+            b'j'
+        } else {
+            b'k'
+        }
+    } else if p > 22.5 {
+        if t <= cd(p) {
+            b'c'
+        } else if t <= gh(p) {
+            b'l'
+        } else if t <= mn(p) {
+            b'm'
+        } else if t <= ef(p) {
+            b'n'
+        } else if t <= op(p) {
+            b'o'
+        } else if t <= ij(p) {
+            b'p'
+        } else if t <= jk(p) {
+            b'j'
+        } else {
+            b'k'
+        }
+    } else if p > LIMIT {
+        if t <= cd(p) {
+            return b'c';
+        }
+        if t <= qu(p) {
+            return b'q';
+        }
+        let tjk = jk(p);
+        if t > tjk {
+            b'k'
+        } else if t > rx(p) {
+            b'r'
+        } else {
+            near_critical(p, t)
+        }
+    } else if p > 20.5 {
+        if t <= cd(p) { b'c' } else if t <= t_saturation(p) { b's' } else if t <= jk(p) { b'r' } else { b'k' }
+    } else if p > 19.00881189173929 {
+        if t <= cd(p) { b'c' } else if t <= t_saturation(p) { b's' } else { b't' }
+    } else if t <= t_saturation(p) {
+        b'c'
+    } else {
+        b't'
+    }
+}
+
+// A letter's table, with reducing pressure, temperature and volume and the two shifts.
+fn reduced(letter: u8) -> (&'static [Row], f64, f64, f64, f64, f64) {
+    use tables::*;
+    match letter {
+        b'a' => (&A, 100.0, 760.0, 0.0024, 0.085, 0.817),
+        b'b' => (&B, 100.0, 860.0, 0.0041, 0.280, 0.779),
+        b'c' => (&C, 40.0, 690.0, 0.0022, 0.259, 0.903),
+        b'd' => (&D, 40.0, 690.0, 0.0029, 0.559, 0.939),
+        b'e' => (&E, 40.0, 710.0, 0.0032, 0.587, 0.918),
+        b'f' => (&F, 40.0, 730.0, 0.0064, 0.587, 0.891),
+        b'g' => (&G, 25.0, 660.0, 0.0027, 0.872, 0.971),
+        b'h' => (&H, 25.0, 660.0, 0.0032, 0.898, 0.983),
+        b'i' => (&I, 25.0, 660.0, 0.0041, 0.910, 0.984),
+        b'j' => (&J, 25.0, 670.0, 0.0054, 0.875, 0.964),
+        b'k' => (&K, 25.0, 680.0, 0.0077, 0.802, 0.935),
+        b'l' => (&L, 24.0, 650.0, 0.0026, 0.908, 0.989),
+        b'm' => (&M, 23.0, 650.0, 0.0028, 1.0, 0.997),
+        b'n' => (&N, 23.0, 650.0, 0.0031, 0.976, 0.997),
+        b'o' => (&O, 23.0, 650.0, 0.0034, 0.974, 0.996),
+        b'p' => (&P, 23.0, 650.0, 0.0041, 0.972, 0.997),
+        b'q' => (&Q, 23.0, 650.0, 0.0022, 0.848, 0.983),
+        b'r' => (&R, 23.0, 650.0, 0.0054, 0.874, 0.982),
+        b's' => (&S, 21.0, 640.0, 0.0022, 0.886, 0.990),
+        b't' => (&T, 20.0, 650.0, 0.0088, 0.803, 1.02),
+        b'u' => (&U, 23.0, 650.0, 0.0026, 0.902, 0.988),
+        b'v' => (&V, 23.0, 650.0, 0.0031, 0.960, 0.995),
+        b'w' => (&W, 23.0, 650.0, 0.0039, 0.959, 0.995),
+        b'x' => (&X, 23.0, 650.0, 0.0049, 0.910, 0.988),
+        b'y' => (&Y, 22.0, 650.0, 0.0031, 0.996, 0.994),
+        _ => (&Z, 22.0, 650.0, 0.0038, 0.993, 0.994),
+    }
+}
+
+fn volume(p: f64, t: f64, letter: u8) -> f64 {
+    let (rows, ps, ts, vs, a, b) = reduced(letter);
+    let mut x = p / ps - a;
+    let mut y = t / ts - b;
+    match letter {
+        b'f' | b'i' | b'j' | b'o' | b'p' => x = x.sqrt(),
+        b'm' => y = y.sqrt().sqrt(),
+        _ => {}
+    }
+    let v = sum(x, y, rows);
+    match letter {
+        b'd' | b'f' | b'g' | b'h' | b'i' | b'j' | b'l' | b'q' | b's' | b'w' | b'y' | b'z' => power(v, 4) * vs,
+        b'n' => exponential(v) * vs,
+        _ => v * vs,
+    }
+}
+
+// Letter, density and refusal of one row.
+fn row(p: f64, t: f64) -> (u8, f64, u8) {
+    if !p.is_finite() || !t.is_finite() {
+        return (0, 0.0, 1);
+    }
+    if !(16.529..=100.0).contains(&p) {
+        return (0, 0.0, 2);
+    }
+    if !(623.15..=863.15).contains(&t) {
+        return (0, 0.0, 3);
+    }
+    let (l, v) = if (t - 647.096).abs() < 1.0e-5 && (p - 22.064).abs() < 1.0e-15 {
+        (0, 1.0 / 322.0)
+    } else {
+        let l = letter(p, t);
+        (l, volume(p, t, l))
+    };
+    let d = 1.0 / v;
+    if !v.is_finite() || !d.is_finite() {
+        (0, 0.0, 5)
+    } else if !(100.0..=800.0).contains(&d) {
+        (0, 0.0, 4)
+    } else {
+        (l, d, 0)
+    }
+}
+
+/// # Safety
+/// Each pointer has n elements behind it.
+#[no_mangle]
+pub unsafe extern "C" fn plain_columns(p: *const f64, t: *const f64, n: usize, letter: *mut u8, density: *mut f64, refusal: *mut u8) {
+    for i in 0..n {
+        let (l, d, k) = row(*p.add(i), *t.add(i));
+        *letter.add(i) = l;
+        *density.add(i) = d;
+        *refusal.add(i) = k;
+    }
+}

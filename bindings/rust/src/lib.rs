@@ -1,0 +1,244 @@
+//! Region 3 of IAPWS-IF97, the water and steam around and above the critical point: safe calls of the proved library `libregion3_c.a`.
+//!
+//! A quantity enters under its own unit, so one in another's place is a compile error. Every `f64` is a fair argument, NaN and the infinities
+//! too: a call answers a value or a [`Refusal`].
+//!
+//! ```
+//! use region3::{pt, Kelvin, MPa};
+//! let state = pt(MPa(24.0), Kelvin(650.0))?;
+//! assert_eq!((1.0 / state.v, state.T), (state.d.0, Kelvin(650.0)));
+//! # Ok::<(), region3::Refusal>(())
+//! ```
+//!
+//! # Ranges
+//!
+//! Both ends inside: p 16.529 to 100 MPa, T 623.15 to 863.15 K, d 100 to 800 kg/m3, h 1500 to 2900 kJ/kg, s 3.3 to 5.3 kJ/(kg K).
+//!
+//! # What a number is worth
+//!
+//! - The bits are those of one written order of rounded operations, the Rust crate seuif97 2.3.8's with its powers, roots, logarithms and exponentials
+//!   written out. That the library gives them is proved of its source; the compiler behind the proof is not proved.
+//! - **Letter l** lacks the last term of its published equation, as the Rust has it: v is up to 4.1 percent low, and on an even grid over l 12 percent
+//!   of the points come back from [`pt`] with a p more than 1e-4 of it off, at most 0.5 percent.
+//! - **[`Property::OE`], [`Property::OIJTC`], [`Property::OFI`], [`Property::OFU`]** are not what their names say; each says by how much.
+//! - **The ranges are wider than region 3.** Beyond the border with region 2 (above some 636 K at 18 MPa) and inside the saturation dome the calls
+//!   answer numbers that mean nothing, a negative heat capacity among them.
+//! - **At p = 100 MPa**, the end of the range, half of all [`pt`] calls are refused with [`Refusal::State`]: the p of the found state comes out a little
+//!   above 100. At 99.99 none of 4,001 was.
+//!
+//! # Rounding mode
+//!
+//! The library counts on rounding to nearest, ties to even; in another mode its answers have other bits. A Rust program is always in that mode: Rust
+//! assumes it, offers no safe way to leave it, and calls it undefined behaviour to change it by other means (`_mm_setcsr`, assembly). Only foreign
+//! code of the same thread that has set another mode and not set it back could break this, and with it every Rust function that works with floats.
+//!
+//! # Linking
+//!
+//! The crate needs `libregion3_c.a`: see its build script, or "Link it" in the repository's README. The archive leaves one symbol to the linker, `memset`,
+//! and calls no mathematical function of the C library.
+#![allow(non_snake_case)]
+#![deny(missing_docs)]
+#![deny(clippy::undocumented_unsafe_blocks)]
+
+mod property;
+mod raw;
+mod refusal;
+mod unit;
+
+pub use property::Property;
+pub use refusal::Refusal;
+pub use unit::{KJPerKg, KJPerKgK, Kelvin, KgPerM3, MPa};
+
+/// The properties of a state.
+#[derive(Clone, Copy, Debug, PartialEq)]
+#[non_exhaustive]
+pub struct Record {
+    /// Temperature.
+    pub T: Kelvin,
+    /// Density.
+    pub d: KgPerM3,
+    /// Specific volume in m3/kg: the one that was found, not 1/d worked anew.
+    pub v: f64,
+    /// Pressure. In [`hs`] the backward equation's; in the others worked from the found state, so it need not be the caller's.
+    pub p: MPa,
+    /// Specific enthalpy.
+    pub h: KJPerKg,
+    /// Specific entropy.
+    pub s: KJPerKgK,
+    /// Specific internal energy.
+    pub u: KJPerKg,
+    /// Isochoric heat capacity.
+    pub cv: KJPerKgK,
+    /// Isobaric heat capacity.
+    pub cp: KJPerKgK,
+    /// Speed of sound in m/s.
+    pub w: f64,
+}
+
+impl Record {
+    fn of([T, d, v, p, h, s, u, cv, cp, w]: [f64; 10]) -> Record {
+        Record {
+            T: Kelvin(T),
+            d: KgPerM3(d),
+            v,
+            p: MPa(p),
+            h: KJPerKg(h),
+            s: KJPerKgK(s),
+            u: KJPerKg(u),
+            cv: KJPerKgK(cv),
+            cp: KJPerKgK(cp),
+            w,
+        }
+    }
+}
+
+// Only 0 is accepted.
+fn answer<T>(number: u8, value: T) -> Result<T, Refusal> {
+    match Refusal::of(number) {
+        None => Ok(value),
+        Some(refusal) => Err(refusal),
+    }
+}
+
+// A call that writes one number.
+fn number(call: impl FnOnce(&mut f64) -> u8) -> Result<f64, Refusal> {
+    let mut out = 0.0;
+    let refusal = call(&mut out);
+    answer(refusal, out)
+}
+
+// A call that writes a record.
+fn record(call: unsafe extern "C" fn(f64, f64, *mut [f64; 10]) -> u8, a: f64, b: f64) -> Result<Record, Refusal> {
+    let mut out = [0.0; 10];
+    // SAFETY: out is ten numbers of ours, and the call keeps no pointer.
+    let refusal = unsafe { call(a, b, &mut out) };
+    answer(refusal, Record::of(out))
+}
+
+/// The record at a temperature and a density.
+pub fn td(t: Kelvin, d: KgPerM3) -> Result<Record, Refusal> {
+    record(raw::r3_td, t.0, d.0)
+}
+
+/// The record at a pressure and a temperature. Its p is the found state's, not the caller's.
+///
+/// In letter l the volume is up to 4.1 percent low, and at p = 100 half of the calls are refused: see the crate's first page.
+pub fn pt(p: MPa, t: Kelvin) -> Result<Record, Refusal> {
+    record(raw::r3_pt, p.0, t.0)
+}
+
+/// The record at a pressure and an enthalpy.
+pub fn ph(p: MPa, h: KJPerKg) -> Result<Record, Refusal> {
+    record(raw::r3_ph, p.0, h.0)
+}
+
+/// The record at a pressure and an entropy.
+pub fn ps(p: MPa, s: KJPerKgK) -> Result<Record, Refusal> {
+    record(raw::r3_ps, p.0, s.0)
+}
+
+/// The record at an enthalpy and an entropy. Its p is the backward equation's.
+pub fn hs(h: KJPerKg, s: KJPerKgK) -> Result<Record, Refusal> {
+    record(raw::r3_hs, h.0, s.0)
+}
+
+/// One property at a temperature and a density, in the unit that the [`Property`] names.
+pub fn property(property: Property, t: Kelvin, d: KgPerM3) -> Result<f64, Refusal> {
+    property_by_number(property.number(), t, d)
+}
+
+/// One property by its number: [`Refusal::Property`] for a number that no [`Property`] has.
+pub fn property_by_number(o_id: i32, t: Kelvin, d: KgPerM3) -> Result<f64, Refusal> {
+    // SAFETY: out is a number of ours, and the call keeps no pointer.
+    number(|out| unsafe { raw::r3_property(o_id, t.0, d.0, out) })
+}
+
+/// The subregion's letter, 'a' to 'z'.
+///
+/// For 23 < p <= 25 MPa a theorem says that it is the letter of the exact published boundaries wherever T is a millionth of a kelvin or more away from
+/// each of them; elsewhere it is the letter of the rounded ones.
+pub fn letter(p: MPa, t: Kelvin) -> Result<char, Refusal> {
+    let mut out = 0;
+    // SAFETY: out is a byte of ours, and the call keeps no pointer.
+    let refusal = unsafe { raw::r3_letter(p.0, t.0, &mut out) };
+    answer(refusal, char::from(out))
+}
+
+/// The saturation pressure at a temperature from 623.15 to 647.096 K.
+pub fn p_saturation(t: Kelvin) -> Result<MPa, Refusal> {
+    // SAFETY: out is a number of ours, and the call keeps no pointer.
+    number(|out| unsafe { raw::r3_p_saturation(t.0, out) }).map(MPa)
+}
+
+/// The saturation temperature at a pressure from 16.529 to 22.064 MPa.
+pub fn t_saturation(p: MPa) -> Result<Kelvin, Refusal> {
+    // SAFETY: out is a number of ours, and the call keeps no pointer.
+    number(|out| unsafe { raw::r3_t_saturation(p.0, out) }).map(Kelvin)
+}
+
+/// a to the n by the bits of n, for n from -64 to 64.
+pub fn power(a: f64, n: i32) -> Result<f64, Refusal> {
+    // SAFETY: out is a number of ours, and the call keeps no pointer.
+    number(|out| unsafe { raw::r3_power(a, n, out) })
+}
+
+/// The f64 nearest the exact root.
+pub fn root(x: f64) -> Result<f64, Refusal> {
+    // SAFETY: out is a number of ours, and the call keeps no pointer.
+    number(|out| unsafe { raw::r3_root(x, out) })
+}
+
+/// The logarithm by the written series, within 5.8e-16 of the host's where that was compared.
+pub fn logarithm(x: f64) -> Result<f64, Refusal> {
+    // SAFETY: out is a number of ours, and the call keeps no pointer.
+    number(|out| unsafe { raw::r3_logarithm(x, out) })
+}
+
+/// The exponential by the written series, for x from -700 to 700: within 8.0e-14 of the host's where that was compared.
+pub fn exponential(x: f64) -> Result<f64, Refusal> {
+    // SAFETY: out is a number of ours, and the call keeps no pointer.
+    number(|out| unsafe { raw::r3_exponential(x, out) })
+}
+
+/// The column run: for each row of p and t the letter's byte, the density and the refusal's number, 0 where the row is accepted.
+///
+/// A row at the critical point has no letter, 0, and a refused row holds letter 0 and density +0.0. Columns of unequal length are refused
+/// before the call, with nothing written. Plain slices enter by [`MPa::slice`], [`Kelvin::slice`] and [`KgPerM3::slice_mut`], without a copy:
+///
+/// ```
+/// use region3::{columns, Kelvin, KgPerM3, MPa};
+/// let (p, t) = (vec![24.0, 30.0], vec![650.0, 690.0]);
+/// let (mut letter, mut density, mut refusal) = (vec![0; 2], vec![0.0; 2], vec![0; 2]);
+/// columns(MPa::slice(&p), Kelvin::slice(&t), &mut letter, KgPerM3::slice_mut(&mut density), &mut refusal)?;
+/// assert_eq!((&letter[..], &refusal[..]), (&b"gf"[..], &[0, 0][..]));
+/// assert!((density[0] - 461.671).abs() < 0.001);
+/// # Ok::<(), region3::Refusal>(())
+/// ```
+pub fn columns(
+    p: &[MPa],
+    t: &[Kelvin],
+    letter: &mut [u8],
+    density: &mut [KgPerM3],
+    refusal: &mut [u8],
+) -> Result<(), Refusal> {
+    let rows = p.len();
+    if [t.len(), letter.len(), density.len(), refusal.len()] != [rows; 4] {
+        return Err(Refusal::Columns);
+    }
+    // SAFETY: the five columns are `rows` long, a unit is an f64 by `repr(transparent)`, the borrows keep them apart, and the call keeps no pointer.
+    let number = unsafe {
+        raw::r3_columns(
+            p.as_ptr().cast(),
+            rows,
+            t.as_ptr().cast(),
+            rows,
+            letter.as_mut_ptr(),
+            rows,
+            density.as_mut_ptr().cast(),
+            rows,
+            refusal.as_mut_ptr(),
+            rows,
+        )
+    };
+    answer(number, ())
+}

@@ -1,0 +1,28 @@
+// The functions of region3.h.
+extern "C" {
+    pub fn r3_td(t: f64, d: f64, out: *mut [f64; 10]) -> u8;
+    pub fn r3_pt(p: f64, t: f64, out: *mut [f64; 10]) -> u8;
+    pub fn r3_ph(p: f64, h: f64, out: *mut [f64; 10]) -> u8;
+    pub fn r3_ps(p: f64, s: f64, out: *mut [f64; 10]) -> u8;
+    pub fn r3_hs(h: f64, s: f64, out: *mut [f64; 10]) -> u8;
+    pub fn r3_property(number: i32, t: f64, d: f64, out: *mut f64) -> u8;
+    pub fn r3_letter(p: f64, t: f64, letter: *mut u8) -> u8;
+    pub fn r3_p_saturation(t: f64, out: *mut f64) -> u8;
+    pub fn r3_t_saturation(p: f64, out: *mut f64) -> u8;
+    pub fn r3_power(a: f64, n: i32, out: *mut f64) -> u8;
+    pub fn r3_root(x: f64, out: *mut f64) -> u8;
+    pub fn r3_logarithm(x: f64, out: *mut f64) -> u8;
+    pub fn r3_exponential(x: f64, out: *mut f64) -> u8;
+    pub fn r3_columns(
+        p: *const f64,
+        p_rows: usize,
+        t: *const f64,
+        t_rows: usize,
+        letter: *mut u8,
+        letter_rows: usize,
+        density: *mut f64,
+        density_rows: usize,
+        refusal: *mut u8,
+        refusal_rows: usize,
+    ) -> u8;
+}

@@ -1,0 +1,112 @@
+// Every call of the crate: published values, refusals, and the columns' checks. The C test has the published tables whole.
+use region3::*;
+
+// x, rounded to the digits of a printed value, is that value
+fn printed(x: f64, value: f64, digits: i32) -> bool {
+    let unit = 10f64.powi(value.log10().floor() as i32 - digits + 1);
+    (x - value).abs() <= 0.5000001 * unit
+}
+
+#[test]
+fn the_record_of_r7_97_table_33() {
+    let r = td(Kelvin(650.0), KgPerM3(500.0)).unwrap();
+    let fields = [r.p.0, r.h.0, r.u.0, r.s.0, r.cp.0, r.w];
+    let values = [2.55837018e+01, 1.86343019e+03, 1.81226279e+03, 4.05427273, 1.38935717e+01, 5.02005554e+02];
+    assert!(fields.iter().zip(values).all(|(&x, v)| printed(x, v, 9)), "{fields:?}");
+    assert_eq!((r.T, r.d, r.v), (Kelvin(650.0), KgPerM3(500.0), 0.002));
+}
+
+#[test]
+fn the_pairs() {
+    assert!(printed(pt(MPa(50.0), Kelvin(630.0)).unwrap().v, 1.470853100e-03, 10));
+    let by_h = ph(MPa(50.0), KJPerKg(2000.0)).unwrap();
+    assert!(printed(by_h.T.0, 6.905718338e+02, 10) && printed(by_h.v, 1.908139035e-03, 10));
+    let by_s = ps(MPa(50.0), KJPerKgK(3.6)).unwrap();
+    assert!(printed(by_s.T.0, 6.297158726e+02, 10) && printed(by_s.v, 1.469680170e-03, 10));
+    assert!(printed(hs(KJPerKg(2000.0), KJPerKgK(4.2)).unwrap().p.0, 4.540873468e+01, 10));
+}
+
+#[test]
+fn properties_by_kind_and_by_number() {
+    let (t, d) = (Kelvin(750.0), KgPerM3(500.0));
+    let r = td(t, d).unwrap();
+    assert_eq!(property(Property::OH, t, d), Ok(r.h.0));
+    assert_eq!(property_by_number(10, t, d), Ok(r.w));
+    assert_eq!(property_by_number(1, t, d), Err(Refusal::Property));
+    assert!(Property::ALL.iter().all(|&p| Property::of(p.number()) == Some(p) && property(p, t, d).is_ok()));
+    let known = |n: &i32| property_by_number(*n, t, d) != Err(Refusal::Property);
+    assert!((-1000..1000).filter(known).eq(Property::ALL.iter().map(|p| p.number())));
+    assert_eq!(property_by_number(-1, Kelvin(f64::NAN), d), Err(Refusal::Property));
+}
+
+#[test]
+fn the_rules() {
+    assert_eq!(power(2.0, -3), Ok(0.125));
+    assert_eq!(power(2.0, i32::MIN), Err(Refusal::Second));
+    assert_eq!(root(2.0), Ok(2f64.sqrt()));
+    assert_eq!(root(-1.0), Err(Refusal::Step));
+    assert_eq!(logarithm(1.0), Ok(0.0));
+    assert_eq!(exponential(0.0), Ok(1.0));
+    assert_eq!(exponential(701.0), Err(Refusal::First));
+}
+
+#[test]
+fn the_saturation_line() {
+    assert!(printed(p_saturation(Kelvin(643.15)).unwrap().0, 21.04336732, 10));
+    assert_eq!(p_saturation(Kelvin(650.0)), Err(Refusal::First));
+    assert!(printed(t_saturation(MPa(22.064)).unwrap().0, 647.096, 6));
+}
+
+#[test]
+fn letters_and_refusals() {
+    assert_eq!(letter(MPa(24.0), Kelvin(650.0)), Ok('g'));
+    assert_eq!(letter(MPa(101.0), Kelvin(900.0)), Err(Refusal::First));
+    assert_eq!(pt(MPa(f64::NAN), Kelvin(900.0)), Err(Refusal::NotFinite));
+    assert_eq!(pt(MPa(24.0), Kelvin(623.149)), Err(Refusal::Second));
+    assert_eq!(td(Kelvin(863.15), KgPerM3(800.0)), Err(Refusal::State));
+}
+
+#[test]
+fn every_number_but_0_is_a_refusal() {
+    assert_eq!(Refusal::of(0), None);
+    assert!((1..=255).all(|k| Refusal::of(k).map(Refusal::number) == Some(k)));
+    assert_eq!(Refusal::of(7), Some(Refusal::Columns));
+    assert_eq!(Refusal::of(8), Some(Refusal::Other(8)));
+    assert!(Refusal::Other(8).to_string().contains('8'));
+}
+
+#[test]
+fn plain_slices_are_columns_without_a_copy() {
+    let (p, t, mut d) = ([24.0, 24.0, 101.0], [650.0, 655.0, 650.0], [9.0; 3]);
+    assert_eq!(MPa::slice(&p).as_ptr().cast(), p.as_ptr());
+    assert_eq!(KJPerKg::slice(&[]).len(), 0);
+    let (mut letter, mut refusal) = ([9; 3], [9; 3]);
+    let density = KgPerM3::slice_mut(&mut d);
+    assert_eq!(columns(MPa::slice(&p), Kelvin::slice(&t), &mut letter, density, &mut refusal), Ok(()));
+    assert_eq!((letter, refusal), ([b'g', b'i', 0], [0, 0, 2]));
+    assert_eq!((d[0], d[2].to_bits()), (pt(MPa(24.0), Kelvin(650.0)).unwrap().d.0, 0));
+}
+
+#[test]
+fn the_columns() {
+    let p = [24.0, 24.0, 101.0, 22.064].map(MPa);
+    let t = [650.0, 655.0, 650.0, 647.096].map(Kelvin);
+    let (mut letter, mut density, mut refusal) = ([9; 4], [KgPerM3(9.0); 4], [9; 4]);
+    assert_eq!(columns(&p, &t, &mut letter, &mut density, &mut refusal), Ok(()));
+    assert_eq!((letter, refusal), ([b'g', b'i', 0, 0], [0, 0, 2, 0]));
+    assert_eq!(density[0], pt(p[0], t[0]).unwrap().d);
+    assert_eq!(density[2].0.to_bits(), 0);
+}
+
+#[test]
+fn columns_of_unequal_length_are_refused_and_nothing_is_written() {
+    let (p, t) = ([MPa(24.0); 2], [Kelvin(650.0); 2]);
+    let (mut letter, mut density, mut refusal) = ([9; 2], [KgPerM3(9.0); 2], [9; 2]);
+    assert_eq!(columns(&p[..1], &t, &mut letter, &mut density, &mut refusal), Err(Refusal::Columns));
+    assert_eq!(columns(&p, &t[..1], &mut letter, &mut density, &mut refusal), Err(Refusal::Columns));
+    assert_eq!(columns(&p, &t, &mut letter[..1], &mut density, &mut refusal), Err(Refusal::Columns));
+    assert_eq!(columns(&p, &t, &mut letter, &mut density[..1], &mut refusal), Err(Refusal::Columns));
+    assert_eq!(columns(&p, &t, &mut letter, &mut density, &mut refusal[..1]), Err(Refusal::Columns));
+    assert_eq!((letter, density, refusal), ([9; 2], [KgPerM3(9.0); 2], [9; 2]));
+    assert_eq!(columns(&[], &[], &mut [], &mut [], &mut []), Ok(()));
+}
