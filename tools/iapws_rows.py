@@ -6,8 +6,8 @@ of the last printed digit away from it. Of all f64 those are the ones from the s
 is not above it, and these two ends are worked out here in fractions: the program compares x with them and rounds nothing.
 
 A point is 112 bytes: a row of 24 as for `answers`, byte 24 which of the reply's ten numbers is meant, two f64 (the ends) from byte 32 on,
-and 64 bytes of text from byte 48 on. Left out: the saturation line's points, which lie outside our range, and p2h_3ab, which is no entry
-of its own; tools/oracle runs them on the untouched Rust.
+and 64 bytes of text from byte 48 on. Left out: the saturation line's points, which lie outside our range, and p2h_3ab, the line between 3a
+and 3b, which is no entry of its own; tools/oracle runs them on the untouched Rust. T by (p,h) on both sides of that line stands for it.
 """
 import math
 import struct
@@ -38,7 +38,8 @@ def rows_of(function, first, second, letter):
         return [(9, ord(letter), float(first), float(second), 0, f"{function}({letter}, {first}, {second})")]
     a, b = float(first), float(second)
     if function in PAIRS:
-        return [(PAIRS[function], 0, a, b, 0, f"{function}({first}, {second})")]
+        side = "" if letter == "-" else f" by {letter}"
+        return [(PAIRS[function], 0, a, b, 0, f"{function}({first}, {second}){side}")]
     name = function.removeprefix("Td2").removesuffix("_reg3")
     return [
         (20, 0, a, b, FIELDS[name], f"record({first}, {second}) {name}"),

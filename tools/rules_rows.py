@@ -1,7 +1,7 @@
 #!/usr/bin/env python3
 """The stored list of the four written rules: crates/replay/data/rules.bin, records of 112 bytes (a row of 24 and its reply of 88).
 
-The answers are worked here, from document 01's words alone: the root by whole numbers (math.isqrt), the other rules by the same
+The answers are worked here, from docs/SCOPE.md's words alone: the root by whole numbers (math.isqrt), the other rules by the same
 rounded operations on Python's floats, which are IEEE doubles. Nothing of the port or of the oracle is read.
 The last rows also make crates/answers/stdin and stdout: two pages, and a rest that is not answered.
 """
@@ -214,11 +214,10 @@ def records():
 
 def main():
     out = records()
-    (REPOSITORY / "crates/replay/data/rules.bin").write_bytes(b"".join(out))
     few = out[:: len(out) // 700]
     (REPOSITORY / "crates/answers/stdin").write_bytes(b"".join(r[:24] for r in few) + few[0][:23])
     (REPOSITORY / "crates/answers/stdout").write_bytes(b"".join(r[24:] for r in few))
-    print("rules.bin", len(out), "answers", len(few))
+    print("answers", len(few))
 
 
 if __name__ == "__main__":

@@ -1,13 +1,16 @@
 #!/usr/bin/env python3
-"""The stored list of the table sums: crates/sums/data/tables.bin and rows.bin, and the stdout that `sums` must write.
+"""The stored list of the table sums: crates/check_sums/data/tables.bin and rows.bin, and the stdout that `check_sums` must write.
 
-The answers are worked here, from document 01's words and the formulas of the Rust's algo/polynomial.rs and polynomial_steps.rs, by the
+The answers are worked here, from docs/SCOPE.md's words and the formulas of the Rust's algo/polynomial.rs and polynomial_steps.rs, by the
 same rounded operations on Python's floats, which are IEEE doubles; the power is rules_rows.py's. Nothing of the port is read.
 The three real tables are parsed from the Rust's text, found beside the repository at ../shared/docs/src or where SEUIF97_SRC says.
 
 A table is 1040 bytes: the lengths of its columns I, J and n in the first three, then from byte 16 on 64 whole numbers I, 64 whole numbers
 J and 64 f64 n. A row is 56 bytes: the table, the sum and the refusal in the first three, then from byte 8 on vi, vj and four f64, the
 answer's numbers and +0.0 for the rest. The little end is first.
+
+Some rows differ on purpose, so that `check_sums` has to find them, and stdout counts them by sum: for each sum four rows of which one bit of
+the stored answer is turned over (over the sums, every byte of an answer), one row of a table that does not exist; and one row of no sum.
 """
 import math
 import os
@@ -282,20 +285,50 @@ def listed():
     return tables, asked
 
 
+# where a row has its answer: the refusal, and four numbers
+ANSWER = (2, *range(24, 56))
+SPOILED, NAMED, NO_TABLE = 4, 10, 200
+
+
+def spoiled(rows):
+    """The rows of one sum after the other, with those that differ on purpose, and the places of these."""
+    out, wrong, byte = [], [], 0
+    for of_sum in rows:
+        start = len(out)
+        out += of_sum
+        for k in range(SPOILED):
+            i = start + (2 * k + 1) * len(of_sum) // (2 * SPOILED)
+            row = bytearray(out[i])
+            row[ANSWER[byte % len(ANSWER)]] ^= 1 << byte % 8
+            out[i] = bytes(row)
+            wrong.append(i)
+            byte += 1
+        wrong.append(len(out))
+        out.append(bytes((NO_TABLE,)) + of_sum[0][1:])
+    wrong.append(len(out))
+    out.append(out[0][:1] + bytes((len(SUMS),)) + out[0][2:])
+    assert byte >= len(ANSWER)
+    return out, wrong
+
+
 def main():
     tables, asked = listed()
     assert len(tables) <= 96, len(tables)
     rows, refusals = [], {}
     for which, f in enumerate(SUMS):
+        rows.append([])
         for table, vi, vj in asked:
             refusal, numbers = answered(f, vi, vj, tables[table])
             refusals[refusal] = refusals.get(refusal, 0) + 1
-            rows.append(row_bytes(table, which, vi, vj, refusal, numbers))
-    (REPOSITORY / "crates/sums/data/tables.bin").write_bytes(b"".join(map(table_bytes, tables)))
-    (REPOSITORY / "crates/sums/data/rows.bin").write_bytes(b"".join(rows))
-    lines = [f"{f.__name__}_powi rows {len(asked)} differ 0" for f in SUMS]
-    (REPOSITORY / "crates/sums/stdout").write_text("\n".join([*lines, f"rows {len(rows)} differ 0 left 0", ""]))
-    print("tables", len(tables), "rows", len(rows), "refusals", dict(sorted(refusals.items())))
+            rows[-1].append(row_bytes(table, which, vi, vj, refusal, numbers))
+    stored, wrong = spoiled(rows)
+    (REPOSITORY / "crates/check_sums/data/tables.bin").write_bytes(b"".join(map(table_bytes, tables)))
+    (REPOSITORY / "crates/check_sums/data/rows.bin").write_bytes(b"".join(stored))
+    lines = [f"differs: row {i + 1}" for i in wrong[:NAMED]]
+    lines += [f"{f.__name__}_powi rows {len(asked) + 1} differ {SPOILED + 1}" for f in SUMS]
+    lines += [f"rows {len(stored)} differ {len(wrong)} left 0", ""]
+    (REPOSITORY / "crates/check_sums/stdout").write_text("\n".join(lines))
+    print("tables", len(tables), "rows", len(stored), "spoiled", len(wrong), "refusals", dict(sorted(refusals.items())))
 
 
 if __name__ == "__main__":

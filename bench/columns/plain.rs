@@ -1,4 +1,4 @@
-// The plain Rust that the column run is measured against: document 01's rules on columns of p and T, raw f64, hardware root, one finiteness
+// The plain Rust that the column run is measured against: docs/SCOPE.md's rules on columns of p and T, raw f64, hardware root, one finiteness
 // test a row. Straight code for the boundaries, one generic sum over tables of rows, powers by the written rule.
 #![allow(non_upper_case_globals)]
 

@@ -1,16 +1,38 @@
-/* Region 3 of IAPWS-IF97: the functions of libregion3_c.a, which `rt staticlib region3_c` writes for x86-64 Linux.
+/* Region 3 of IAPWS-IF97: the functions of libregion3_c.a, which `rt staticlib region3_c` writes for x86-64 Linux and tools/native for the
+ * host's own processor.
  *
  * Units: p in MPa, t in K, d in kg/m3, h in kJ/kg, s in kJ/(kg K).
  *
  * A call returns its refusal's number, R3_ACCEPTED where there is none, and always writes through its pointers: +0.0 in a number and in every
  * field of a record, 0 for a letter, where it is refused. (r3_columns with R3_COLUMNS writes nothing.) Every double is a fair argument, NaN and
- * the infinities too. A pointer is to live memory of the size that its type or its length says, aligned, and no memory that a call writes
- * overlaps other memory of that call. Calls keep no state: any number of threads may call at once.
+ * the infinities too. Calls keep no state: any number of threads may call at once. The number returned is a byte: a caller in another language
+ * takes the low byte of the result alone, as C does.
+ *
+ * What the caller owes:
+ *  - A pointer is to live memory of the size that its type or its length says, aligned, and no memory that a call writes overlaps other memory
+ *    of that call.
+ *  - The processor rounds to nearest, ties to even, as every C program starts. In another rounding mode (fesetround, or a library that sets one)
+ *    12 of the 14 calls answered other bits at some of a thousand points. r3_rounds_to_nearest() tells which it is. Flush-to-zero changed none
+ *    of 14 calls, tried at a point each; where a step is subnormal it can: 1e-160 squared by r3_power is then 0.
+ *
+ * What a number is worth (docs/DIFFERENCES.md has each with its input):
+ *  - Letter l lacks the last term of its published equation, as the Rust has it: v is up to 4.1 percent low, and on an even grid over l 12
+ *    percent of the points come back from r3_pt with a p more than 1e-4 of it off, at most 0.5 percent.
+ *  - R3_OE, R3_OIJTC, R3_OFI and R3_OFU are the Rust's formulas and not what their names say: see each below.
+ *  - The ranges are wider than region 3: beyond the border with region 2 (above some 636 K at 18 MPa) and inside the saturation dome the calls
+ *    answer numbers that mean nothing, a cp below 0 among them.
+ *  - At p = 100, the end of the range, half of all r3_pt calls are R3_STATE: the p of the found state comes out a little above 100. At 99.99 none
+ *    of 4,001 was.
+ *
+ * The archive calls no mathematical function of the C library: the one symbol that it leaves to the linker is memset.
  *
  * This header includes no other.
  */
 #ifndef REGION3_H
 #define REGION3_H
+
+#define R3_VERSION "0.2.0"
+#define R3_VERSION_NUMBER 200 /* 10000 * first + 100 * second + third */
 
 #ifdef __cplusplus
 extern "C" {
@@ -19,29 +41,69 @@ extern "C" {
 typedef __SIZE_TYPE__ r3_size;
 typedef unsigned char r3_byte;
 
-/* Why a call is refused, in the order in which it is found: 7, 6, 1, 2, 3, then 4 or 5 at the first step that meets either. */
+/* Why a call is refused, in the order in which it is found: 7, 6, 1, 2, 3, then 4 or 5 at the first step that meets either. Later versions add
+ * numbers: anything but 0 is a refusal. */
 enum {
-    R3_ACCEPTED = 0,
+    R3_ACCEPTED = 0,   /* accepted */
     R3_NOT_FINITE = 1, /* an argument is NaN or infinite */
     R3_FIRST = 2,      /* the first argument is outside its range */
     R3_SECOND = 3,     /* the second argument is outside its range */
     R3_STATE = 4,      /* a p, T or d of the state, worked out by the call, is outside its range */
-    R3_STEP = 5,       /* a step gives a number that is not finite */
+    R3_STEP = 5,       /* a step gives a number that is not finite, or a root of a negative or a logarithm of a number not above 0 is taken */
     R3_PROPERTY = 6,   /* the property's number is unknown */
-    R3_COLUMNS = 7     /* columns of unequal length */
+    R3_COLUMNS = 7     /* the columns are of unequal length */
 };
 
-/* The places of a record: K, kg/m3, m3/kg, MPa, kJ/kg, kJ/(kg K), kJ/kg, kJ/(kg K), kJ/(kg K), m/s. */
-enum { R3_T, R3_D, R3_V, R3_P, R3_H, R3_S, R3_U, R3_CV, R3_CP, R3_W, R3_FIELDS };
-
-/* The numbers of the properties, as seuif97 has them in common/property_id.rs. */
+/* The places of a record. */
 enum {
-    R3_OP = 0, R3_OV = 3, R3_OH = 4, R3_OS = 5, R3_OE = 6, R3_OU = 7, R3_OCP = 8, R3_OCV = 9, R3_OW = 10,
-    R3_OKS = 11, R3_OF = 12, R3_OG = 13, R3_OZ = 14, R3_OEC = 17, R3_OKT = 18, R3_ODVDT = 19, R3_ODVDP = 20,
-    R3_ODPDT = 21, R3_OIJTC = 22, R3_OJTC = 23, R3_OPC = 31, R3_OBETAP = 32, R3_OFI = 33, R3_OFU = 34, R3_OALFAP = 35
+    R3_T = 0,   /* K */
+    R3_D = 1,   /* kg/m3 */
+    R3_V = 2,   /* m3/kg */
+    R3_P = 3,   /* MPa */
+    R3_H = 4,   /* kJ/kg */
+    R3_S = 5,   /* kJ/(kg K) */
+    R3_U = 6,   /* kJ/kg */
+    R3_CV = 7,  /* kJ/(kg K) */
+    R3_CP = 8,  /* kJ/(kg K) */
+    R3_W = 9,   /* m/s */
+    R3_FIELDS = 10
 };
 
-/* The record of a state; out has R3_FIELDS places. */
+/* The 25 properties at a T and a d: number as in seuif97's common/property_id.rs, name, unit. Those marked "Rust" are formulas of the Rust that
+ * IAPWS does not print; those marked WARNING are not what their names say. */
+enum {
+    R3_OP = 0,      /* pressure, MPa; R3_STATE outside 16.529 to 100 */
+    R3_OV = 3,      /* specific volume, m3/kg */
+    R3_OH = 4,      /* specific enthalpy, kJ/kg */
+    R3_OS = 5,      /* specific entropy, kJ/(kg K) */
+    R3_OE = 6,      /* exergy, kJ/kg; Rust. WARNING: multiplies tau by (phi_tau - phi) where entropy has tau*phi_tau - phi: 315 below to 18 above
+                       h - 273.16 K * s over region 3, or -22 to +2.5 percent */
+    R3_OU = 7,      /* specific internal energy, kJ/kg */
+    R3_OCP = 8,     /* isobaric heat capacity, kJ/(kg K) */
+    R3_OCV = 9,     /* isochoric heat capacity, kJ/(kg K) */
+    R3_OW = 10,     /* speed of sound, m/s */
+    R3_OKS = 11,    /* isentropic exponent, 1; Rust */
+    R3_OF = 12,     /* Helmholtz free energy, kJ/kg; Rust */
+    R3_OG = 13,     /* Gibbs free energy, kJ/kg; Rust */
+    R3_OZ = 14,     /* compressibility factor, 1; Rust */
+    R3_OEC = 17,    /* isobaric cubic expansion coefficient, 1/K; Rust */
+    R3_OKT = 18,    /* isothermal compressibility, 1/MPa; Rust */
+    R3_ODVDT = 19,  /* (dv/dT) at constant p, m3/(kg K); Rust */
+    R3_ODVDP = 20,  /* (dv/dp) at constant T, m3/(kg MPa); Rust */
+    R3_ODPDT = 21,  /* (dp/dT) at constant v, MPa/K; Rust */
+    R3_OIJTC = 22,  /* isothermal throttling coefficient (dh/dp) at constant T; Rust. WARNING: a thousandth of kJ/(kg MPa), the unit that the Rust
+                       states; the number is in kJ/(kg kPa) */
+    R3_OJTC = 23,   /* Joule-Thomson coefficient (dT/dp) at constant h, K/MPa; Rust */
+    R3_OPC = 31,    /* isochoric pressure coefficient (1/p)(dp/dT) at constant v, 1/K; Rust */
+    R3_OBETAP = 32, /* isothermal stress coefficient, kg/m3; Rust */
+    R3_OFI = 33,    /* fugacity coefficient, 1; Rust. WARNING: exp(g/(R T)) with no ideal-gas reference: over region 3 a factor of 1.2 to 33 below the
+                       coefficient with the ideal gas of R7-97 equation 16 as reference */
+    R3_OFU = 34,    /* fugacity, MPa; Rust. WARNING: p times R3_OFI, so off by the same factor */
+    R3_OALFAP = 35  /* relative pressure coefficient, 1/K; Rust. The quantity of R3_OPC by another formula, up to 9.1e-16 of it apart */
+};
+
+/* The record of a state; out has R3_FIELDS places. In r3_hs the record's p is the backward equation's; in the others, r3_pt too, it is worked from
+ * the found state, so it need not be the caller's. */
 r3_byte r3_td(double t, double d, double *out);
 r3_byte r3_pt(double p, double t, double *out);
 r3_byte r3_ph(double p, double h, double *out);
@@ -64,11 +126,39 @@ r3_byte r3_columns(
 r3_byte r3_p_saturation(double t, double *out);
 r3_byte r3_t_saturation(double p, double *out);
 
-/* The four written rules. */
+/* The four written rules: a to the n, n from -64 to 64; the nearest root; the logarithm's series; the exponential's, x from -700 to 700. */
 r3_byte r3_power(double a, int n, double *out);
 r3_byte r3_root(double x, double *out);
 r3_byte r3_logarithm(double x, double *out);
 r3_byte r3_exponential(double x, double *out);
+
+/* The version of this header, which is not in the archive. */
+static __inline__ const char *r3_version(void) { return R3_VERSION; }
+
+/* What a refusal's number means, in English; never null. */
+static __inline__ const char *r3_refusal_text(int number) {
+    switch (number) {
+    case R3_ACCEPTED: return "accepted";
+    case R3_NOT_FINITE: return "an argument is NaN or infinite";
+    case R3_FIRST: return "the first argument is outside its range";
+    case R3_SECOND: return "the second argument is outside its range";
+    case R3_STATE: return "a p, T or d of the state, worked out by the call, is outside its range";
+    case R3_STEP: return "a step gives a number that is not finite";
+    case R3_PROPERTY: return "the property's number is unknown";
+    case R3_COLUMNS: return "the columns are of unequal length";
+    }
+    return "refused, by a number that this header does not know";
+}
+
+/* Whether this thread's arithmetic rounds to nearest, as the library must find it: 1 or 0. By three sums, so that no header and no library is
+ * needed; it says what fegetround() == FE_TONEAREST of fenv.h says. */
+static __inline__ int r3_rounds_to_nearest(void) {
+    /* the unit above 1, half of it and three quarters of it */
+    const double unit = 2.220446049250313080847263336181640625e-16;
+    volatile double one = 1.0, half = unit / 2.0, more = unit * 0.75;
+    volatile double up = one + more, stays = one + half, down = -one - half;
+    return up == 1.0 + unit && stays == 1.0 && down == -1.0;
+}
 
 #ifdef __cplusplus
 }

@@ -4,6 +4,10 @@
 
 int printf(const char *, ...);
 int memcmp(const void *, const void *, r3_size);
+void *memset(void *, int, r3_size);
+r3_size strlen(const char *);
+int fesetround(int);
+int fegetround(void);
 
 static int tried, failed;
 
@@ -239,12 +243,98 @@ static void columns(void) {
     expect(r3_columns(p, 0, t, 0, letter, 0, d, 0, refusal, 0) == R3_ACCEPTED && d[0] == -7, "no rows", 0, 0);
 }
 
+// What this header says by itself.
+static void texts(void) {
+    static const int numbers[] = {R3_ACCEPTED, R3_NOT_FINITE, R3_FIRST, R3_SECOND, R3_STATE, R3_STEP, R3_PROPERTY, R3_COLUMNS};
+    expect(memcmp(r3_version(), R3_VERSION, sizeof R3_VERSION) == 0, "the version", 0, 0);
+    for (int i = 0; i < 8; i++) {
+        expect(numbers[i] == i, "the refusals are numbered without a gap", i, numbers[i]);
+        for (int k = 0; k < i; k++) expect(r3_refusal_text(i) != r3_refusal_text(k), "each refusal has its own text", i, k);
+    }
+    expect(strlen(r3_refusal_text(8)) > 0 && r3_refusal_text(8) == r3_refusal_text(-1), "an unknown number has a text", 8, -1);
+}
+
+// The rounding modes of fenv.h on this processor: to nearest, downward, upward, toward zero.
+#if defined(__x86_64__)
+static const int modes[] = {0, 0x400, 0x800, 0xc00};
+#elif defined(__aarch64__)
+static const int modes[] = {0, 0x800000, 0x400000, 0xc00000};
+#else
+#error "the rounding modes of this processor are not known here"
+#endif
+
+enum { CALLS = 14, POINTS = 1000 };
+
+struct answer {
+    double numbers[R3_FIELDS];
+    r3_byte refusal, letter, of_row;
+};
+
+static unsigned long seed = 1;
+static double uniform(double from, double to) {
+    seed = seed * 6364136223846793005ul + 1442695040888963407ul;
+    return from + (to - from) * (seed >> 11) * (1.0 / 9007199254740992.0);
+}
+
+struct point {
+    double p, t, d, h, s, saturated_p, saturated_t, x;
+};
+
+static struct point any_point(void) {
+    return (struct point){uniform(17, 99), uniform(624, 800), uniform(150, 700), uniform(1600, 2800), uniform(3.5, 5.1),
+                          uniform(16.6, 22), uniform(624, 647), uniform(0.5, 2)};
+}
+
+static void call_all(struct point z, struct answer *a) {
+    memset(a, 0, CALLS * sizeof *a);
+    a[0].refusal = r3_td(z.t, z.d, a[0].numbers);
+    a[1].refusal = r3_pt(z.p, z.t, a[1].numbers);
+    a[2].refusal = r3_ph(z.p, z.h, a[2].numbers);
+    a[3].refusal = r3_ps(z.p, z.s, a[3].numbers);
+    a[4].refusal = r3_hs(z.h, z.s, a[4].numbers);
+    a[5].refusal = r3_property(R3_OZ, z.t, z.d, a[5].numbers);
+    a[6].refusal = r3_letter(z.p, z.t, &a[6].letter);
+    a[7].refusal = r3_columns(&z.p, 1, &z.t, 1, &a[7].letter, 1, a[7].numbers, 1, &a[7].of_row, 1);
+    a[8].refusal = r3_p_saturation(z.saturated_t, a[8].numbers);
+    a[9].refusal = r3_t_saturation(z.saturated_p, a[9].numbers);
+    a[10].refusal = r3_power(z.x, 13, a[10].numbers);
+    a[11].refusal = r3_root(z.x, a[11].numbers);
+    a[12].refusal = r3_logarithm(z.x, a[12].numbers);
+    a[13].refusal = r3_exponential(z.x, a[13].numbers);
+}
+
+// The check of the rounding mode agrees with fegetround. Why it is there: how many calls answer other bits in another mode is printed.
+static void rounding(void) {
+    static const char *names[] = {"to nearest", "downward", "upward", "toward zero"};
+    static struct answer usual[CALLS], other[CALLS];
+    for (int m = 0; m < 4; m++) {
+        int changed[CALLS] = {0}, calls = 0;
+        fesetround(modes[m]);
+        int says = r3_rounds_to_nearest(), mode = fegetround();
+        fesetround(modes[0]);
+        expect(says == (m == 0) && mode == modes[m], "the check of the rounding mode is fegetround's", m, says);
+        for (int i = 0; i < POINTS; i++) {
+            struct point z = any_point();
+            call_all(z, usual);
+            fesetround(modes[m]);
+            call_all(z, other);
+            fesetround(modes[0]);
+            for (int k = 0; k < CALLS; k++) changed[k] |= memcmp(usual + k, other + k, sizeof *usual) != 0;
+        }
+        for (int k = 0; k < CALLS; k++) calls += changed[k];
+        if (m == 0) expect(calls == 0, "a call gives the same bits again", m, calls);
+        else printf("rounding %s: %d of %d calls answer other bits at some of %d points\n", names[m], calls, CALLS, POINTS);
+    }
+}
+
 int main(void) {
     published();
     properties();
     rules();
     refusals();
     columns();
+    texts();
+    rounding();
     printf("region3.h: %d tried, %d failed\n", tried, failed);
     return failed != 0;
 }

@@ -9,101 +9,69 @@
 //! assert_eq!((1.0 / state.v, state.T), (state.d.0, Kelvin(650.0)));
 //! # Ok::<(), region3::Refusal>(())
 //! ```
+//!
+//! # Ranges
+//!
+//! Both ends inside: p 16.529 to 100 MPa, T 623.15 to 863.15 K, d 100 to 800 kg/m3, h 1500 to 2900 kJ/kg, s 3.3 to 5.3 kJ/(kg K).
+//!
+//! # What a number is worth
+//!
+//! - The bits are those of one written order of rounded operations, the Rust crate seuif97 2.3.8's with its powers, roots, logarithms and exponentials
+//!   written out. That the library gives them is proved of its source; the compiler behind the proof is not proved.
+//! - **Letter l** lacks the last term of its published equation, as the Rust has it: v is up to 4.1 percent low, and on an even grid over l 12 percent
+//!   of the points come back from [`pt`] with a p more than 1e-4 of it off, at most 0.5 percent.
+//! - **[`Property::OE`], [`Property::OIJTC`], [`Property::OFI`], [`Property::OFU`]** are not what their names say; each says by how much.
+//! - **The ranges are wider than region 3.** Beyond the border with region 2 (above some 636 K at 18 MPa) and inside the saturation dome the calls
+//!   answer numbers that mean nothing, a negative heat capacity among them.
+//! - **At p = 100 MPa**, the end of the range, half of all [`pt`] calls are refused with [`Refusal::State`]: the p of the found state comes out a little
+//!   above 100. At 99.99 none of 4,001 was.
+//!
+//! # Rounding mode
+//!
+//! The library counts on rounding to nearest, ties to even; in another mode its answers have other bits. A Rust program is always in that mode: Rust
+//! assumes it, offers no safe way to leave it, and calls it undefined behaviour to change it by other means (`_mm_setcsr`, assembly). Only foreign
+//! code of the same thread that has set another mode and not set it back could break this, and with it every Rust function that works with floats.
+//!
+//! # Linking
+//!
+//! The crate needs `libregion3_c.a`: see its build script, or "Link it" in the repository's README. The archive leaves one symbol to the linker, `memset`,
+//! and calls no mathematical function of the C library.
 #![allow(non_snake_case)]
+#![deny(missing_docs)]
+#![deny(clippy::undocumented_unsafe_blocks)]
 
+mod property;
 mod raw;
+mod refusal;
+mod unit;
 
-use std::fmt;
+pub use property::Property;
+pub use refusal::Refusal;
+pub use unit::{KJPerKg, KJPerKgK, Kelvin, KgPerM3, MPa};
 
-/// A pressure.
-#[derive(Clone, Copy, Debug, PartialEq, PartialOrd)]
-#[repr(transparent)]
-pub struct MPa(pub f64);
-
-/// A temperature.
-#[derive(Clone, Copy, Debug, PartialEq, PartialOrd)]
-#[repr(transparent)]
-pub struct Kelvin(pub f64);
-
-/// A density.
-#[derive(Clone, Copy, Debug, PartialEq, PartialOrd)]
-#[repr(transparent)]
-pub struct KgPerM3(pub f64);
-
-/// An enthalpy or an inner energy.
-#[derive(Clone, Copy, Debug, PartialEq, PartialOrd)]
-#[repr(transparent)]
-pub struct KJPerKg(pub f64);
-
-/// An entropy or a heat capacity.
-#[derive(Clone, Copy, Debug, PartialEq, PartialOrd)]
-#[repr(transparent)]
-pub struct KJPerKgK(pub f64);
-
-/// Why a call is refused. They are looked for in the order 7, 6, 1, 2, 3, then 4 or 5 at the first step that meets either.
-#[derive(Clone, Copy, Debug, PartialEq, Eq, Hash)]
-#[repr(u8)]
-pub enum Refusal {
-    /// An argument is NaN or infinite.
-    NotFinite = 1,
-    /// The first argument is outside its range.
-    First = 2,
-    /// The second argument is outside its range.
-    Second = 3,
-    /// A p, T or d of the state, worked out by the call, is outside its range.
-    State = 4,
-    /// A step gives a number that is not finite.
-    Step = 5,
-    /// The property's number is unknown.
-    Property = 6,
-    /// Columns of unequal length.
-    Columns = 7,
-}
-
-impl Refusal {
-    /// The refusal of a number: none for 0, or for a number that the library never answers.
-    pub fn of(number: u8) -> Option<Refusal> {
-        match number {
-            1 => Some(Refusal::NotFinite),
-            2 => Some(Refusal::First),
-            3 => Some(Refusal::Second),
-            4 => Some(Refusal::State),
-            5 => Some(Refusal::Step),
-            6 => Some(Refusal::Property),
-            7 => Some(Refusal::Columns),
-            _ => None,
-        }
-    }
-}
-
-impl fmt::Display for Refusal {
-    fn fmt(&self, f: &mut fmt::Formatter<'_>) -> fmt::Result {
-        f.write_str(match self {
-            Refusal::NotFinite => "an argument is NaN or infinite",
-            Refusal::First => "the first argument is outside its range",
-            Refusal::Second => "the second argument is outside its range",
-            Refusal::State => "a p, T or d of the state is outside its range",
-            Refusal::Step => "a step gives a number that is not finite",
-            Refusal::Property => "the property's number is unknown",
-            Refusal::Columns => "the columns are of unequal length",
-        })
-    }
-}
-
-impl std::error::Error for Refusal {}
-
-/// The properties of a state: v in m3/kg, w in m/s, the others by their units.
+/// The properties of a state.
 #[derive(Clone, Copy, Debug, PartialEq)]
+#[non_exhaustive]
 pub struct Record {
+    /// Temperature.
     pub T: Kelvin,
+    /// Density.
     pub d: KgPerM3,
+    /// Specific volume in m3/kg: the one that was found, not 1/d worked anew.
     pub v: f64,
+    /// Pressure. In [`hs`] the backward equation's; in the others worked from the found state, so it need not be the caller's.
     pub p: MPa,
+    /// Specific enthalpy.
     pub h: KJPerKg,
+    /// Specific entropy.
     pub s: KJPerKgK,
+    /// Specific internal energy.
     pub u: KJPerKg,
+    /// Isochoric heat capacity.
     pub cv: KJPerKgK,
+    /// Isobaric heat capacity.
     pub cp: KJPerKgK,
+    /// Speed of sound in m/s.
     pub w: f64,
 }
 
@@ -124,37 +92,7 @@ impl Record {
     }
 }
 
-/// A property at a temperature and a density, with its number in seuif97's `property_id.rs`.
-#[derive(Clone, Copy, Debug, PartialEq, Eq, Hash)]
-#[repr(i32)]
-pub enum Property {
-    OP = 0,
-    OV = 3,
-    OH = 4,
-    OS = 5,
-    OE = 6,
-    OU = 7,
-    OCP = 8,
-    OCV = 9,
-    OW = 10,
-    OKS = 11,
-    OF = 12,
-    OG = 13,
-    OZ = 14,
-    OEC = 17,
-    OKT = 18,
-    ODVDT = 19,
-    ODVDP = 20,
-    ODPDT = 21,
-    OIJTC = 22,
-    OJTC = 23,
-    OPC = 31,
-    OBETAP = 32,
-    OFI = 33,
-    OFU = 34,
-    OALFAP = 35,
-}
-
+// Only 0 is accepted.
 fn answer<T>(number: u8, value: T) -> Result<T, Refusal> {
     match Refusal::of(number) {
         None => Ok(value),
@@ -183,6 +121,8 @@ pub fn td(t: Kelvin, d: KgPerM3) -> Result<Record, Refusal> {
 }
 
 /// The record at a pressure and a temperature. Its p is the found state's, not the caller's.
+///
+/// In letter l the volume is up to 4.1 percent low, and at p = 100 half of the calls are refused: see the crate's first page.
 pub fn pt(p: MPa, t: Kelvin) -> Result<Record, Refusal> {
     record(raw::r3_pt, p.0, t.0)
 }
@@ -197,63 +137,83 @@ pub fn ps(p: MPa, s: KJPerKgK) -> Result<Record, Refusal> {
     record(raw::r3_ps, p.0, s.0)
 }
 
-/// The record at an enthalpy and an entropy.
+/// The record at an enthalpy and an entropy. Its p is the backward equation's.
 pub fn hs(h: KJPerKg, s: KJPerKgK) -> Result<Record, Refusal> {
     record(raw::r3_hs, h.0, s.0)
 }
 
-/// One property at a temperature and a density, in seuif97's unit of it.
+/// One property at a temperature and a density, in the unit that the [`Property`] names.
 pub fn property(property: Property, t: Kelvin, d: KgPerM3) -> Result<f64, Refusal> {
-    property_by_number(property as i32, t, d)
+    property_by_number(property.number(), t, d)
 }
 
 /// One property by its number: [`Refusal::Property`] for a number that no [`Property`] has.
 pub fn property_by_number(o_id: i32, t: Kelvin, d: KgPerM3) -> Result<f64, Refusal> {
-    // SAFETY: out is a number of ours, and the call keeps no pointer. So below.
+    // SAFETY: out is a number of ours, and the call keeps no pointer.
     number(|out| unsafe { raw::r3_property(o_id, t.0, d.0, out) })
 }
 
 /// The subregion's letter, 'a' to 'z'.
+///
+/// For 23 < p <= 25 MPa a theorem says that it is the letter of the exact published boundaries wherever T is a millionth of a kelvin or more away from
+/// each of them; elsewhere it is the letter of the rounded ones.
 pub fn letter(p: MPa, t: Kelvin) -> Result<char, Refusal> {
     let mut out = 0;
+    // SAFETY: out is a byte of ours, and the call keeps no pointer.
     let refusal = unsafe { raw::r3_letter(p.0, t.0, &mut out) };
     answer(refusal, char::from(out))
 }
 
 /// The saturation pressure at a temperature from 623.15 to 647.096 K.
 pub fn p_saturation(t: Kelvin) -> Result<MPa, Refusal> {
+    // SAFETY: out is a number of ours, and the call keeps no pointer.
     number(|out| unsafe { raw::r3_p_saturation(t.0, out) }).map(MPa)
 }
 
 /// The saturation temperature at a pressure from 16.529 to 22.064 MPa.
 pub fn t_saturation(p: MPa) -> Result<Kelvin, Refusal> {
+    // SAFETY: out is a number of ours, and the call keeps no pointer.
     number(|out| unsafe { raw::r3_t_saturation(p.0, out) }).map(Kelvin)
 }
 
 /// a to the n by the bits of n, for n from -64 to 64.
 pub fn power(a: f64, n: i32) -> Result<f64, Refusal> {
+    // SAFETY: out is a number of ours, and the call keeps no pointer.
     number(|out| unsafe { raw::r3_power(a, n, out) })
 }
 
 /// The f64 nearest the exact root.
 pub fn root(x: f64) -> Result<f64, Refusal> {
+    // SAFETY: out is a number of ours, and the call keeps no pointer.
     number(|out| unsafe { raw::r3_root(x, out) })
 }
 
-/// The logarithm by the written series.
+/// The logarithm by the written series, within 5.8e-16 of the host's where that was compared.
 pub fn logarithm(x: f64) -> Result<f64, Refusal> {
+    // SAFETY: out is a number of ours, and the call keeps no pointer.
     number(|out| unsafe { raw::r3_logarithm(x, out) })
 }
 
-/// The exponential by the written series, for x from -700 to 700.
+/// The exponential by the written series, for x from -700 to 700: within 8.0e-14 of the host's where that was compared.
 pub fn exponential(x: f64) -> Result<f64, Refusal> {
+    // SAFETY: out is a number of ours, and the call keeps no pointer.
     number(|out| unsafe { raw::r3_exponential(x, out) })
 }
 
 /// The column run: for each row of p and t the letter's byte, the density and the refusal's number, 0 where the row is accepted.
 ///
 /// A row at the critical point has no letter, 0, and a refused row holds letter 0 and density +0.0. Columns of unequal length are refused
-/// before the call, with nothing written.
+/// before the call, with nothing written. Plain slices enter by [`MPa::slice`], [`Kelvin::slice`] and [`KgPerM3::slice_mut`], without a copy:
+///
+/// ```
+/// use region3::{columns, Kelvin, KgPerM3, MPa};
+/// let (p, t) = (vec![24.0, 30.0], vec![650.0, 690.0]);
+/// let (mut letter, mut density, mut refusal) = (vec![0; 2], vec![0.0; 2], vec![0; 2]);
+/// columns(MPa::slice(&p), Kelvin::slice(&t), &mut letter, KgPerM3::slice_mut(&mut density), &mut refusal)?;
+/// assert_eq!((&letter[..], &refusal[..]), (&b"gf"[..], &[0, 0][..]));
+/// assert!((density[0] - 461.671).abs() < 0.001);
+/// # Ok::<(), region3::Refusal>(())
+/// ```
 pub fn columns(
     p: &[MPa],
     t: &[Kelvin],
@@ -265,7 +225,7 @@ pub fn columns(
     if [t.len(), letter.len(), density.len(), refusal.len()] != [rows; 4] {
         return Err(Refusal::Columns);
     }
-    // SAFETY: the five columns are `rows` long, a unit is an f64 by `repr(transparent)`, and the borrows keep them apart.
+    // SAFETY: the five columns are `rows` long, a unit is an f64 by `repr(transparent)`, the borrows keep them apart, and the call keeps no pointer.
     let number = unsafe {
         raw::r3_columns(
             p.as_ptr().cast(),

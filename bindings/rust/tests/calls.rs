@@ -33,6 +33,9 @@ fn properties_by_kind_and_by_number() {
     assert_eq!(property(Property::OH, t, d), Ok(r.h.0));
     assert_eq!(property_by_number(10, t, d), Ok(r.w));
     assert_eq!(property_by_number(1, t, d), Err(Refusal::Property));
+    assert!(Property::ALL.iter().all(|&p| Property::of(p.number()) == Some(p) && property(p, t, d).is_ok()));
+    let known = |n: &i32| property_by_number(*n, t, d) != Err(Refusal::Property);
+    assert!((-1000..1000).filter(known).eq(Property::ALL.iter().map(|p| p.number())));
     assert_eq!(property_by_number(-1, Kelvin(f64::NAN), d), Err(Refusal::Property));
 }
 
@@ -61,8 +64,27 @@ fn letters_and_refusals() {
     assert_eq!(pt(MPa(f64::NAN), Kelvin(900.0)), Err(Refusal::NotFinite));
     assert_eq!(pt(MPa(24.0), Kelvin(623.149)), Err(Refusal::Second));
     assert_eq!(td(Kelvin(863.15), KgPerM3(800.0)), Err(Refusal::State));
-    assert!((1..=7).all(|k| Refusal::of(k).map(|r| r as u8) == Some(k)));
-    assert_eq!((Refusal::of(0), Refusal::of(8)), (None, None));
+}
+
+#[test]
+fn every_number_but_0_is_a_refusal() {
+    assert_eq!(Refusal::of(0), None);
+    assert!((1..=255).all(|k| Refusal::of(k).map(Refusal::number) == Some(k)));
+    assert_eq!(Refusal::of(7), Some(Refusal::Columns));
+    assert_eq!(Refusal::of(8), Some(Refusal::Other(8)));
+    assert!(Refusal::Other(8).to_string().contains('8'));
+}
+
+#[test]
+fn plain_slices_are_columns_without_a_copy() {
+    let (p, t, mut d) = ([24.0, 24.0, 101.0], [650.0, 655.0, 650.0], [9.0; 3]);
+    assert_eq!(MPa::slice(&p).as_ptr().cast(), p.as_ptr());
+    assert_eq!(KJPerKg::slice(&[]).len(), 0);
+    let (mut letter, mut refusal) = ([9; 3], [9; 3]);
+    let density = KgPerM3::slice_mut(&mut d);
+    assert_eq!(columns(MPa::slice(&p), Kelvin::slice(&t), &mut letter, density, &mut refusal), Ok(()));
+    assert_eq!((letter, refusal), ([b'g', b'i', 0], [0, 0, 2]));
+    assert_eq!((d[0], d[2].to_bits()), (pt(MPa(24.0), Kelvin(650.0)).unwrap().d.0, 0));
 }
 
 #[test]

@@ -1,6 +1,6 @@
 -- The reach that is found from a table's columns covers its rows, and is wider than the power rule only where a row is. Assumes nothing.
 use mathlib.Core.Path.{_≡_, refl, sym, ap, _∙_, subst}
-use mathlib.Core.Bool.{Bool, true, false}
+use mathlib.Core.Bool.{Bool, true, false, cond, _&&_}
 use mathlib.Core.List.{List, [], _∷_}
 use Prim.Native.Nat.{ℕ, zero, suc, _+_, _-_, _^_, _<_, _≤_}
 use native.Mathlib.Omega.{arith}
@@ -12,8 +12,7 @@ use lib.Seq.{drop-cons}
 use lib.Signed.{mag, ltZ}
 use lib.Ieee.{Float}
 use borrow.Author.Tests.{ltb-true, ltb-false, lt-ltb, le-ltb}
-use Rattle.common.specs.Outcome.{pick}
-use Rattle.common.specs.Sum.{both, every}
+use Rattle.common.specs.Sum.{every}
 use Rattle.common.proofs.Laws.{never}
 use Rattle.common.proofs.Sums.{both-left, both-right, T-true}
 use Rattle.algo.specs.Table.{Row, row, rowsOf, left}
@@ -181,8 +180,8 @@ reached a b is js ns li lj r ui di uj dj = record {
         let s3 : T (leb (r .«up_j») 64) = rw uj (le→leb (ups b js) 64 (ups-room b js (c .1))) in
         let s4 : T (leb (r .«down_j») 64) = rw dj (le→leb (downs b js) 64 (downs-room b js (c .1))) in
         let big : room r ≡ true = T-true (room r)
-        (both-make (leb (r .«up_i») 64) (both (leb (r .«down_i») 64) (both (leb (r .«up_j») 64) (leb (r .«down_j») 64))) s1
-        (both-make (leb (r .«down_i») 64) (both (leb (r .«up_j») 64) (leb (r .«down_j») 64)) s2
+        (both-make (leb (r .«up_i») 64) (leb (r .«down_i») 64 && (leb (r .«up_j») 64 && leb (r .«down_j») 64)) s1
+        (both-make (leb (r .«down_i») 64) (leb (r .«up_j») 64 && leb (r .«down_j») 64) s2
         (both-make (leb (r .«up_j») 64) (leb (r .«down_j») 64) s3 s4))) in
         never (sym big ∙ small)
 
@@ -204,21 +203,21 @@ most-zero : (u : ℕ) → most u 0 ≡ u
 most-zero u = rw (le-ltb u 0 (omega arith))
 
 -- the higher of an exponent and one that is 0 or above, and the lower of it and one that is 0 or below
-higher : (u : ℕ) (z : ℤ) → pick (ltZ (pos u) z) z (pos u) ≡ pos (most u (upOf z))
+higher : (u : ℕ) (z : ℤ) → cond (ltZ (pos u) z) z (pos u) ≡ pos (most u (upOf z))
 higher u (pos k) = by (ltb u k) refl
   where
-    by : (b : Bool) → ltb u k ≡ b → pick (ltb u k) (pos k) (pos u) ≡ pos (most u k)
+    by : (b : Bool) → ltb u k ≡ b → cond (ltb u k) (pos k) (pos u) ≡ pos (most u k)
     by true e = rw e
     by false e = rw e
 higher u (negsuc k) = ap pos (sym (most-zero u))
 
-lower : (d : ℕ) (z : ℤ) → pick (ltZ z (negℤ (pos d))) z (negℤ (pos d)) ≡ negℤ (pos (most d (downOf z)))
+lower : (d : ℕ) (z : ℤ) → cond (ltZ z (negℤ (pos d))) z (negℤ (pos d)) ≡ negℤ (pos (most d (downOf z)))
 lower zero (pos k) = rw (le-ltb k 0 (omega arith))
 lower zero (negsuc k) = rw (lt-ltb 0 (suc k) (omega arith))
 lower (suc d) (pos k) = ap (λ (n : ℕ). negℤ (pos n)) (sym (most-zero (suc d)))
 lower (suc d) (negsuc k) = by (ltb d k) refl
   where
-    by : (b : Bool) → ltb d k ≡ b → pick (ltb d k) (negsuc k) (negsuc d) ≡ negℤ (pos (most (suc d) (suc k)))
+    by : (b : Bool) → ltb d k ≡ b → cond (ltb d k) (negsuc k) (negsuc d) ≡ negℤ (pos (most (suc d) (suc k)))
     by true e = let l : d < k = ltb-true d k e in rw (e, lt-ltb (suc d) (suc k) (omega arith))
     by false e = let l : k ≤ d = ltb-false d k e in rw (e, le-ltb (suc d) (suc k) (omega arith))
 
@@ -236,7 +235,7 @@ pub passed-none : (ks : List ℤ) → Passed ks 0 (pos 0) (pos 0)
 passed-none ks = record { up = 0; down = 0; top-is = refl; low-is = refl; rises = refl; falls = refl; small = omega arith }
 
 pub passed-more : (ks : List ℤ) (k : ℕ) (top low top' low' : ℤ) → k < length ks → mag (getD ks k (pos 0)) < 2 ^ 31
-    → top' ≡ pick (ltZ top (getD ks k (pos 0))) (getD ks k (pos 0)) top → low' ≡ pick (ltZ (getD ks k (pos 0)) low) (getD ks k (pos 0)) low
+    → top' ≡ cond (ltZ top (getD ks k (pos 0))) (getD ks k (pos 0)) top → low' ≡ cond (ltZ (getD ks k (pos 0)) low) (getD ks k (pos 0)) low
     → Passed ks k top low → Passed ks (k + 1) top' low'
 passed-more ks k top low top' low' h l p q w =
     let z = getD ks k (pos 0) in

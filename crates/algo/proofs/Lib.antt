@@ -6,5 +6,8 @@ pub mod Whole
 pub mod Farthest
 pub mod Refusals
 pub mod Settled
+pub mod Step
+pub mod Looked
 pub mod Constant
+pub mod Pin
 pub mod Unique

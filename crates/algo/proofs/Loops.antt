@@ -1,5 +1,5 @@
 -- A loop over the columns works the rows one by one. Assumes nothing.
-use mathlib.Core.Path.{_≡_, sym, _∙_}
+use mathlib.Core.Path.{_≡_, refl, sym, _∙_}
 use mathlib.Core.Logic.{_⊎_, inl, inr, ⊎-elim}
 use mathlib.Core.Bool.{Bool}
 use mathlib.Core.List.{List, [], _∷_}
@@ -9,7 +9,7 @@ use native.Mathlib.Numerals.{add-one}
 use native.Mathlib.Omega.{arith}
 use lib.Dec.{T}
 use lib.IntN.{ℤ, pos}
-use lib.ListN.{length, getD, drop-of-length-le}
+use lib.ListN.{length, getD, drop, drop-of-length-le}
 use lib.Seq.{drop-cons}
 use lib.Signed.{mag}
 use lib.Ieee.{Float, nan, binary64, add}
@@ -44,14 +44,61 @@ either zero b = inl (omega arith)
 either (suc a) zero = inr (omega arith)
 either (suc a) (suc b) = ⊎-elim (λ (h : a ≤ b). inl (omega arith)) (λ (h : b ≤ a). inr (omega arith)) (either a b)
 
--- a part that would go past the end ends there: k, or the length where that is less
-pub cut-off : (u : Row → Float) (s : Float) (is js : List ℤ) (ns : List Float) (k : ℕ) → length is ≡ length ns →
-    rawTotal u s (rowsFrom is js ns (length ns - (length ns - k))) ≡ rawTotal u s (rowsFrom is js ns k)
-cut-off u s is js ns k e =
-    ⊎-elim
-    (λ (h : k ≤ length ns). let m : length ns - (length ns - k) ≡ k = omega arith in rw m)
-    (λ (h : length ns ≤ k). none-left u s is js ns (length ns - (length ns - k)) e (omega arith) ∙ sym (none-left u s is js ns k e h))
-    (either k (length ns))
+-- ---- columns of any lengths, to the end of the shortest
+
+no-j : (is : List ℤ) (ns : List Float) → rowsOf is [] ns ≡ []
+unfolding rowsOf
+no-j [] ns = refl
+no-j (i ∷ is) ns = refl
+
+no-n : (is js : List ℤ) → rowsOf is js [] ≡ []
+unfolding rowsOf
+no-n [] js = refl
+no-n (i ∷ is) [] = refl
+no-n (i ∷ is) (j ∷ js) = refl
+
+-- the less of a and b is no more than k
+less-of : (a b r k : ℕ) → r ≡ a - (a - b) → r ≤ k → (a ≤ k) ⊎ (b ≤ k)
+less-of a b r k e l =
+    ⊎-elim (λ (h : a ≤ b). inl (omega arith)) (λ (h : b ≤ a). inr (omega arith)) (either a b)
+
+-- n is the least of three lengths
+pub record Shortest (a b c n : ℕ) : Type 0 where
+  pub first : n ≤ a
+  pub second : n ≤ b
+  pub third : n ≤ c
+  pub one : (k : ℕ) → n ≤ k → (a ≤ k) ⊎ ((b ≤ k) ⊎ (c ≤ k))
+
+pub shortest : (a b c m n : ℕ) → m ≡ a - (a - b) → n ≡ m - (m - c) → Shortest a b c n
+shortest a b c m n e f = record {
+  first = omega arith;
+  second = omega arith;
+  third = omega arith;
+  one = λ k l.
+      ⊎-elim
+      (λ (h : m ≤ k). ⊎-elim (λ (g : a ≤ k). inl g) (λ (g : b ≤ k). inr (inl g)) (less-of a b m k e h))
+      (λ (h : c ≤ k). inr (inr h))
+      (less-of m c n k f l);
+}
+
+module _ (u : Row → Float) (s : Float) (is js : List ℤ) (ns : List Float) (n : ℕ) (z : Shortest (length is) (length js) (length ns) n) where
+  pub none-after : (k : ℕ) → n ≤ k → rawTotal u s (rowsFrom is js ns k) ≡ s
+  unfolding rawTotal rowsOf
+  none-after k h =
+      ⊎-elim
+      (λ (l : length is ≤ k). rw (drop-of-length-le is {i = k} l))
+      (⊎-elim
+      (λ (l : length js ≤ k). rw (drop-of-length-le js {i = k} l, no-j (drop k is) (drop k ns)))
+      (λ (l : length ns ≤ k). rw (drop-of-length-le ns {i = k} l, no-n (drop k is) (drop k js))))
+      (z .one k h)
+
+  -- a part that would go past the end ends there
+  pub cut-short : (k : ℕ) → rawTotal u s (rowsFrom is js ns (n - (n - k))) ≡ rawTotal u s (rowsFrom is js ns k)
+  cut-short k =
+      ⊎-elim
+      (λ (h : k ≤ n). let m : n - (n - k) ≡ k = omega arith in rw m)
+      (λ (h : n ≤ k). none-after (n - (n - k)) (omega arith) ∙ sym (none-after k h))
+      (either k n)
 
 -- a test that passes at each row passes at the row k
 every-in : (f : Row → Bool) (is js : List ℤ) (ns : List Float) → T (every f (rowsOf is js ns)) → (k : ℕ) → k < length is → k < length js → k < length ns → T (f (rowAt is js ns k))

@@ -1,13 +1,13 @@
 -- How far a table's exponents go. Assumes nothing.
 use mathlib.Core.Path.{_≡_, sym, subst}
-use mathlib.Core.Bool.{Bool, true, false}
+use mathlib.Core.Bool.{Bool, true, false, _&&_}
 use mathlib.Core.List.{List, [], _∷_}
 use Prim.Native.Nat.{ℕ, suc, _<_, _≤_}
 use native.Mathlib.Omega.{arith}
 use lib.Dec.{T, ltb, leb, leb→le, le→leb, ltb→lt, lt→ltb}
 use lib.IntN.{ℤ, pos, negsuc, natAbs}
 use lib.Ieee.{Float}
-use Rattle.common.specs.Sum.{both, every}
+use Rattle.common.specs.Sum.{every}
 use Rattle.common.proofs.Sums.{both-left, both-right}
 use Rattle.algo.specs.Table.{Row, row, left}
 use Rattle.algo.specs.Raw.{inRange}
@@ -15,7 +15,7 @@ use Rattle.algo.specs.Reach.{spans, covers, widest, room, covered}
 use Rattle.algo.specs.declared.Order.{Order}
 use Rattle.algo.specs.declared.Reach.{Reach}
 
-pub both-make : (a b : Bool) → T a → T b → T (both a b)
+pub both-make : (a b : Bool) → T a → T b → T (a && b)
 both-make true b t u = u
 both-make false b t u = absurd t
 

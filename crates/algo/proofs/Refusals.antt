@@ -1,6 +1,6 @@
 -- A caller's columns are refused as any rule over their rows refuses them. Assumes nothing.
 use mathlib.Core.Path.{_≡_, refl, ap, _∙_}
-use mathlib.Core.Bool.{Bool, true, false}
+use mathlib.Core.Bool.{Bool, true, false, cond}
 use mathlib.Core.List.{List}
 use Prim.Native.Nat.{ℕ}
 use lib.Dec.{eqb}
@@ -8,7 +8,7 @@ use lib.IntN.{ℤ}
 use lib.ListN.{length}
 use lib.Ieee.{Float}
 use borrow.Author.Tests.{eq-eqb}
-use Rattle.common.specs.Outcome.{Outcome, value, refused, pick, numberIn}
+use Rattle.common.specs.Outcome.{Outcome, value, refused, numberIn}
 use Rattle.common.specs.Sum.{every}
 use Rattle.algo.specs.Table.{Row, rowsOf, byColumns}
 use Rattle.algo.specs.Raw.{inRange}
@@ -25,7 +25,7 @@ module _ {A : Type 0} (f : List Row → Outcome A) (is js : List ℤ) (ns : List
   taken-by p q = rw (eq-eqb (length is) (length ns) p, eq-eqb (length js) (length ns) q)
 
   refused-case : (p q t : Bool) (a b : Order) → ((rs : List Row) → every (inRange a b) rs ≡ false → f rs ≡ refused 5) → (k : ℕ) → every (inRange a b) (rowsOf is js ns) ≡ t
-      → _≡_ {A = Outcome Unit} (pick p (pick q (pick t (value tt) (refused 5)) (refused 7)) (refused 7)) (refused k) → pick p (pick q (f (rowsOf is js ns)) (refused 7)) (refused 7) ≡ refused k
+      → _≡_ {A = Outcome Unit} (cond p (cond q (cond t (value tt) (refused 5)) (refused 7)) (refused 7)) (refused k) → cond p (cond q (f (rowsOf is js ns)) (refused 7)) (refused 7) ≡ refused k
   refused-case false q t a b out k e h = same-number 7 k h
   refused-case true false t a b out k e h = same-number 7 k h
   refused-case true true true a b out k e h = cc

@@ -9,7 +9,8 @@ use lib.Ieee.{Float, nan, inf, fin, binary64, add, mul, div, ofInt}
 use Rattle.common.specs.Outcome.{Outcome, value, refused, finite, check, then, inside, orNan, zeroF}
 use Rattle.common.specs.Sum.{total}
 use Rattle.common.proofs.Laws.{check-kept, inside-check}
-use Rattle.rules.specs.Power.{powerRule, rawPower}
+use Rattle.rules.specs.Power.{powerRule}
+use Rattle.rules.specs.RawPower.{rawPower}
 use Rattle.rules.proofs.Powers.{power-check}
 use Rattle.algo.specs.Table.{Row, row, raised, fallen, factor, derived, term, sumRule}
 use Rattle.algo.specs.Raw.{rawFallen}

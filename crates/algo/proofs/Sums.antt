@@ -1,20 +1,22 @@
 -- A sum of a table with a check at each step is the raw sum checked once, whatever its terms are: a lost number stays lost up to the end.
 -- Where the power rule does not take an exponent, the sum is refused with 5. Assumes nothing.
+use Rattle.common.specs.Formula.{rawOver}
 use mathlib.Core.Path.{_≡_, refl, sym, ap, _∙_, subst}
-use mathlib.Core.Bool.{Bool, true, false}
+use mathlib.Core.Bool.{Bool, true, false, _&&_}
 use mathlib.Core.List.{List, [], _∷_}
 use lib.Dec.{T, leb}
 use lib.IntN.{ℤ, pos, natAbs, _-ℤ_}
 use lib.Ieee.{Float, nan, inf, fin, binary64, add, mul}
 use Rattle.common.specs.Outcome.{Outcome, refused, finite, check, then, orNan, zeroF}
-use Rattle.common.specs.Sum.{both, total, rawTotal, every}
+use Rattle.common.specs.Sum.{total, rawTotal, every}
 use Rattle.common.proofs.Laws.{Lost, never, mul-left, mul-right, div-left, check-kept, inside-check, next, step}
 use Rattle.common.proofs.Sums.{both-left, both-right, T-true, total-check}
-use Rattle.rules.specs.Power.{powerRule, rawPower}
+use Rattle.rules.specs.Power.{powerRule}
+use Rattle.rules.specs.RawPower.{rawPower}
 use Rattle.rules.proofs.Powers.{power-check}
 use Rattle.algo.specs.Table.{Row, row, raised, left, factor, derived, sumRule}
 use Rattle.algo.specs.Joint.{timesWhole, weigh, over, divided, shared, shareRule}
-use Rattle.algo.specs.Raw.{rawFallen, rawFactor, rawDerived, rawWhole, rawWeigh, rawShared, rawOver, rawDivided, inRange, gate}
+use Rattle.algo.specs.Raw.{rawFallen, rawFactor, rawDerived, rawWhole, rawWeigh, rawShared, rawDivided, inRange, gate}
 use Rattle.algo.specs.declared.Order.{Order}
 use Rattle.algo.specs.declared.Order.the-variants.{Zero, One, Two}
 use Rattle.algo.specs.declared.Share.{Share}
@@ -171,7 +173,7 @@ factor-out Zero v k x fv big = raised-out v k x fv big
 factor-out One v k x fv big = then-out (rawFallen One k x) _ (λ y. raised-out v (k -ℤ pos 1) y fv big)
 factor-out Two v k x fv big = then-out (rawFallen Two k x) _ (λ y. raised-out v (k -ℤ pos 2) y fv big)
 
-derived-out-by : (p q : Bool) (a b : Order) (vi vj : Float) → finite vi ≡ true → finite vj ≡ true → (i j : ℤ) (n : Float) → leb (natAbs (left a i)) 64 ≡ p → leb (natAbs (left b j)) 64 ≡ q → both p q ≡ false → derived a b vi vj (row i j n) ≡ refused 5
+derived-out-by : (p q : Bool) (a b : Order) (vi vj : Float) → finite vi ≡ true → finite vj ≡ true → (i j : ℤ) (n : Float) → leb (natAbs (left a i)) 64 ≡ p → leb (natAbs (left b j)) 64 ≡ q → (p && q) ≡ false → derived a b vi vj (row i j n) ≡ refused 5
 derived-out-by false q a b vi vj fi fj i j n ei ej h = rw (factor-out a vi i n fi ei)
 derived-out-by true true a b vi vj fi fj i j n ei ej h = never h
 derived-out-by true false a b vi vj fi fj i j n ei ej h =
@@ -185,7 +187,7 @@ shared-out : (a : Order) (s : Share) (vi vj : Float) → finite vi ≡ true → 
 shared-out a s vi vj fi fj (row i j n) h = rw (derived-out a Zero vi vj fi fj (row i j n) h)
 
 module _ (t : Row → Outcome Float) (u : Row → Float) (f : Row → Bool) (inner : (r : Row) → T (f r) → t r ≡ check (u r)) (outer : (r : Row) → f r ≡ false → t r ≡ refused 5) where
-  total-out-by : (b : Bool) (s : Float) (r : Row) (rs : List Row) → f r ≡ b → both b (every f rs) ≡ false → ((s : Float) → every f rs ≡ false → total t s rs ≡ refused 5) → total t s (r ∷ rs) ≡ refused 5
+  total-out-by : (b : Bool) (s : Float) (r : Row) (rs : List Row) → f r ≡ b → (b && every f rs) ≡ false → ((s : Float) → every f rs ≡ false → total t s rs ≡ refused 5) → total t s (r ∷ rs) ≡ refused 5
   unfolding total
   total-out-by false s r rs e h later = rw (outer r e)
   total-out-by true s r rs e h later =

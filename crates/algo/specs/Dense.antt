@@ -1,13 +1,13 @@
 -- Powers of one base in a table of 129: the power n stands at 64 + n, for n from -64 to 64. Assumes nothing: these are definitions.
 use Prim.Native.Nat.{ℕ, zero, suc, _+_, _-_, _<_, _≤_}
 use mathlib.Core.Path.{_≡_}
-use mathlib.Core.Bool.{Bool, true, false}
+use mathlib.Core.Bool.{Bool, true, false, cond}
 use mathlib.Core.List.{List}
-use lib.Dec.{ltb}
-use lib.IntN.{ℤ, pos, negsuc}
+use lib.Dec.{ltb, leb}
+use lib.IntN.{ℤ, pos, negsuc, natAbs}
 use lib.ListN.{length, getD}
 use lib.Ieee.{Float, nan, binary64, mul}
-use Rattle.rules.specs.Power.{rawPower}
+use Rattle.rules.specs.RawPower.{rawPower}
 use Rattle.algo.specs.declared.Reach.{Reach}
 
 -- a, squared h times
@@ -28,9 +28,31 @@ pub record Filled (a : Float) (w : List Float) (lo hi : ℕ) : Type 0 where
   pub size : length w ≡ 129
   pub at : (k : ℕ) → lo ≤ k → k < hi → getD w k nan ≡ rawPower a (exponentAt k)
 
--- the powers of a from -down to up stand in w, if it has room for them
+-- and everywhere else what was there before
+pub record Written (a : Float) (before w : List Float) (lo hi : ℕ) : Type 0 where
+  pub held : Filled a w lo hi
+  pub rest : (k : ℕ) → (lo ≤ k → k < hi → ⊥) → getD w k nan ≡ getD before k nan
+
+-- n, or 64 where that is less
+abbrev pub capped : ℕ → ℕ
+capped n = 64 - (64 - n)
+
+-- the highest power that is worked to have those from -down to up
+abbrev pub highest : ℕ → ℕ → ℕ
+highest up down = capped down + (capped up - capped down)
+
+-- the powers of a from -down to the highest, and to 7 in any case, are written to a table of 129
 pub record Powers (a : Float) (before w : List Float) (up down : ℕ) : Type 0 where
-  pub stand : length before ≡ 129 → Filled a w (64 - down) (65 + up)
+  pub stand : length before ≡ 129 → Written a before w (64 - capped down) (72 + (highest up down - 7))
+
+-- where the power n stands
+abbrev pub placeOf : ℤ → ℕ
+placeOf (pos k) = 64 + k
+placeOf (negsuc k) = 63 - k
+
+-- the power n in w: a NaN for an exponent that has no place there
+abbrev pub lookedUp : List Float → ℤ → Float
+lookedUp w n = cond (leb (natAbs n) 64) (getD w (placeOf n) nan) nan
 
 -- the powers of both bases, as far as r goes
 pub record Stocked (vi vj : Float) (wi wj : List Float) (r : Reach) : Type 0 where

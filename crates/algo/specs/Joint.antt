@@ -69,10 +69,10 @@ fourTable vi vj =
 
 -- ---- the paper's number and value of an answer
 
-abbrev pub pairPaper : PairAnswer → Outcome Pair
-pairPaper (pairs.Value p) = value p
-pairPaper (pairs.Refused k) = refused (numberOf k)
+abbrev pub paperPair : PairAnswer → Outcome Pair
+paperPair (pairs.Value p) = value p
+paperPair (pairs.Refused k) = refused (numberOf k)
 
-abbrev pub fourPaper : FourAnswer → Outcome Four
-fourPaper (fours.Value p) = value p
-fourPaper (fours.Refused k) = refused (numberOf k)
+abbrev pub paperFour : FourAnswer → Outcome Four
+paperFour (fours.Value p) = value p
+paperFour (fours.Refused k) = refused (numberOf k)

@@ -1,6 +1,6 @@
 pub mod Table
 pub mod Joint
-pub mod Raw
 pub mod Dense
+pub mod Raw
 pub mod Reach
 pub mod Columns

@@ -1,12 +1,13 @@
 -- The sums over a table of rows I, J, n, in table order, each step checked: algo/polynomial.rs and algo/polynomial_steps.rs.
 -- Assumes nothing: these are definitions.
+use mathlib.Core.Bool.{cond}
 use Prim.Native.Nat.{ℕ}
 use mathlib.Core.List.{List, [], _∷_}
 use lib.Dec.{eqb}
 use lib.IntN.{ℤ, pos, _-ℤ_, _*ℤ_}
 use lib.ListN.{length, drop}
 use lib.Ieee.{Float, binary64, mul, ofInt}
-use Rattle.common.specs.Outcome.{Outcome, value, refused, check, then, inside, pick, zeroF}
+use Rattle.common.specs.Outcome.{Outcome, value, refused, check, then, inside, zeroF}
 use Rattle.common.specs.Sum.{total}
 use Rattle.rules.specs.Power.{powerRule}
 use Rattle.algo.specs.declared.Order.{Order}
@@ -84,7 +85,11 @@ sumRule t vi vj rs = then (check vi) (λ a. then (check vj) (λ b. total (t a b)
 
 -- a rule over the rows of a table that is lent by its columns: 7 for columns of unequal length
 abbrev pub byColumns : {A : Type 0} → (List Row → Outcome A) → List ℤ → List ℤ → List Float → Outcome A
-byColumns f is js ns = pick (eqb (length is) (length ns)) (pick (eqb (length js) (length ns)) (f (rowsOf is js ns)) (refused 7)) (refused 7)
+byColumns f is js ns = cond (eqb (length is) (length ns)) (cond (eqb (length js) (length ns)) (f (rowsOf is js ns)) (refused 7)) (refused 7)
 
 unfoldable pub tableRule : (Float → Float → Row → Outcome Float) → Float → Float → List ℤ → List ℤ → List Float → Outcome Float
 tableRule t vi vj = byColumns (sumRule t vi vj)
+
+-- the sum of n * x^I * y^J over the rows as a step of a formula, x worked before y
+abbrev pub sumOf : Outcome Float → Outcome Float → List Row → Outcome Float
+sumOf x y rows = then x (λ vi. then y (λ vj. sumRule term vi vj rows))

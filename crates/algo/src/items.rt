@@ -2,9 +2,9 @@
 use crate::Order;
 use crate::Pair;
 use crate::Share;
-use crate::powers::least;
-use crate::powers::over;
 use crate::powers::place;
+use common::least;
+use common::over;
 ghost use mathlib.Core.Path.{_≡_};
 ghost use Prim.Native.Nat.{ℕ, _+_, _-_, _≤_};
 ghost use lib.Dec.{T};
@@ -14,8 +14,8 @@ ghost use lib.Ieee.{Float};
 ghost use Rattle.common.specs.Outcome.{zeroF};
 ghost use Rattle.common.specs.Sum.{rawTotal, every};
 ghost use Rattle.algo.specs.Table.{row, rowsOf, rowsFrom, left};
-ghost use Rattle.algo.specs.Raw.{rawFactor, rawDerived, rawWeigh, rawShared, rawDivided};
-ghost use Rattle.algo.specs.Dense.{Filled, Stocked};
+ghost use Rattle.algo.specs.Raw.{rawFactor, rawDerived, rawWeigh, rawShared, rawDivided, tabled, Tabled};
+ghost use Rattle.algo.specs.Dense.{Filled, Stocked, lookedUp};
 ghost use Rattle.algo.specs.Reach.{spans, covers, widest, Summed};
 ghost use Rattle.algo.specs.declared.Reach.{Reach};
 
@@ -126,29 +126,55 @@ pub fn sum_at(
     part_at(a, b, 0.0, 0, ns.len(), wi, wj, is, js, ns)
 }
 
-// The sum that nothing is derived in, in parts so short that a compiler writes them out where the table is a constant, and then works no
-// powers but those that its rows name.
-pub fn plain_sum(wi: &[f64; 129], wj: &[f64; 129], is: &[i32], js: &[i32], ns: &[f64]) -> f64
-    requires { ⌜ (length (now is) ≡ length (now ns)) × (length (now js) ≡ length (now ns)) × T (every (covers Order.Zero Order.Zero widest) (rowsOf (now is) (now js) (now ns))) ⌝ }
-    ensures { λ x. ⌜ Summed Order.Zero Order.Zero (now (wi .entry)) (now (wj .entry)) (rowsOf (now (is .entry)) (now (js .entry)) (now (ns .entry))) x ⌝ }
+// The power k of a table, or a NaN for an exponent that has no place there.
+fn power_in(w: &[f64; 129], k: i32) -> f64
+    ensures { λ r. ⌜ r ≡ lookedUp (now (w .entry)) k ⌝ }
 {
-    let n = ns.len();
+    if k < -64 {
+        return 0.0 / 0.0;
+    }
+    if k > 64 {
+        return 0.0 / 0.0;
+    }
+    let at = place(k);
+    w[at]
+}
+
+// The rows from `start` to below `end`, added to a sum.
+fn plain_part(
+    before: f64,
+    start: usize,
+    end: usize,
+    wi: &[f64; 129],
+    wj: &[f64; 129],
+    is: &[i32],
+    js: &[i32],
+    ns: &[f64],
+) -> f64
+    requires { ⌜ (start ≤ end) × (end ≤ length (now is)) × (end ≤ length (now js)) × (end ≤ length (now ns)) ⌝ }
+    ensures { λ x. ⌜ rawTotal (tabled (now (wi .entry)) (now (wj .entry))) before (rowsFrom (now (is .entry)) (now (js .entry)) (now (ns .entry)) start)
+        ≡ rawTotal (tabled (now (wi .entry)) (now (wj .entry))) x (rowsFrom (now (is .entry)) (now (js .entry)) (now (ns .entry)) end) ⌝ }
+{
+    let mut sum = before;
+    let mut k = start;
+    while k < end {
+        sum += ns[k] * power_in(wi, is[k]) * power_in(wj, js[k]);
+        k += 1;
+    }
+    sum
+}
+
+// The sum of (n * vi^I) * vj^J by two tables of powers, to the end of the shortest column. It goes in parts so short that a compiler writes
+// them out where the columns are constants, and then works no powers but those that the rows name, and tests nothing.
+pub fn plain_sum(wi: &[f64; 129], wj: &[f64; 129], is: &[i32], js: &[i32], ns: &[f64]) -> f64
+    ensures { λ x. ⌜ Tabled (now (wi .entry)) (now (wj .entry)) (rowsOf (now (is .entry)) (now (js .entry)) (now (ns .entry))) x ⌝ }
+{
+    let n = least(least(is.len(), js.len()), ns.len());
     let mut sum = 0.0;
     let mut start = 0;
     while start < n {
-        sum = part_at(
-            Order::Zero,
-            Order::Zero,
-            sum,
-            start,
-            least(n, start + 15),
-            wi,
-            wj,
-            is,
-            js,
-            ns,
-        );
-        start += 15;
+        sum = plain_part(sum, start, least(n, start + 11), wi, wj, is, js, ns);
+        start += 11;
     }
     sum
 }

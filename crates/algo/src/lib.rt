@@ -3,16 +3,12 @@
 // a sum, `known` the raw sums of a table whose reach is known and `polynomial` the calls with the Rust's names, which are total.
 mod columns;
 mod items;
-mod known;
 mod polynomial;
 mod powers;
+mod unchecked;
 
 use common::Refusal;
 pub use items::plain_sum;
-pub use known::const_four;
-pub use known::const_pair;
-pub use known::const_slope;
-pub use known::gated;
 pub use polynomial::poly_i_powi;
 pub use polynomial::poly_ii_powi;
 pub use polynomial::poly_ij_powi;
@@ -24,7 +20,11 @@ pub use polynomial::polys_i_ii_ij_jj_powi;
 pub use polynomial::polys_i_ii_powi;
 pub use polynomial::polys_i_ij_powi;
 pub use polynomial::polys_i_j_powi;
-pub use powers::fill;
+pub use powers::fill_powers;
+pub use unchecked::gated;
+pub use unchecked::unchecked_four;
+pub use unchecked::unchecked_pair;
+pub use unchecked::unchecked_sum;
 
 // How often a power of a table's term is derived by its base.
 pub enum Order {

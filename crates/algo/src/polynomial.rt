@@ -9,9 +9,9 @@ use crate::PairAnswer;
 use crate::Share;
 use crate::columns::Finding;
 use crate::columns::examine;
-use crate::known::const_four;
-use crate::known::const_pair;
-use crate::known::const_slope;
+use crate::unchecked::unchecked_four;
+use crate::unchecked::unchecked_pair;
+use crate::unchecked::unchecked_sum;
 use common::Answer;
 use common::Refusal;
 use common::is_finite;
@@ -20,19 +20,19 @@ ghost use mathlib.Core.Path.{_≡_};
 ghost use Rattle.common.specs.Outcome.{check};
 ghost use Rattle.common.specs.Answer.{paper};
 ghost use Rattle.algo.specs.Table.{tableRule, derived, term, termI, termII, termIJ, termJ, termJJ};
-ghost use Rattle.algo.specs.Joint.{pairOf, fourOf, pairPaper, fourPaper, pairTable, fourTable};
+ghost use Rattle.algo.specs.Joint.{pairOf, fourOf, paperPair, paperFour, pairTable, fourTable};
 
 fn table_sum(a: Order, b: Order, vi: f64, vj: f64, is: &[i32], js: &[i32], ns: &[f64]) -> Answer
     ensures { λ r. ⌜ paper r ≡ tableRule (derived a b) vi vj (now (is .entry)) (now (js .entry)) (now (ns .entry)) ⌝ }
 {
     match examine(a, b, is, js, ns) {
-        Finding::Taken(reach) => settle(const_slope(a, b, vi, vj, reach, is, js, ns)),
+        Finding::Taken(reach) => settle(unchecked_sum(a, b, vi, vj, reach, is, js, ns)),
         Finding::Refused(k) => Answer::Refused(k),
     }
 }
 
 fn settle_pair(p: Pair) -> PairAnswer
-    ensures { λ r. ⌜ pairPaper r ≡ pairOf (check (p .first)) (check (p .second)) ⌝ }
+    ensures { λ r. ⌜ paperPair r ≡ pairOf (check (p .first)) (check (p .second)) ⌝ }
 {
     if is_finite(p.first) {
         if is_finite(p.second) {
@@ -52,16 +52,16 @@ fn table_pair(
     js: &[i32],
     ns: &[f64],
 ) -> PairAnswer
-    ensures { λ r. ⌜ pairPaper r ≡ pairTable a s t vi vj (now (is .entry)) (now (js .entry)) (now (ns .entry)) ⌝ }
+    ensures { λ r. ⌜ paperPair r ≡ pairTable a s t vi vj (now (is .entry)) (now (js .entry)) (now (ns .entry)) ⌝ }
 {
     match examine(a, Order::Zero, is, js, ns) {
-        Finding::Taken(reach) => settle_pair(const_pair(a, s, t, vi, vj, reach, is, js, ns)),
+        Finding::Taken(reach) => settle_pair(unchecked_pair(a, s, t, vi, vj, reach, is, js, ns)),
         Finding::Refused(k) => PairAnswer::Refused(k),
     }
 }
 
 fn settle_four(p: Four) -> FourAnswer
-    ensures { λ r. ⌜ fourPaper r ≡ fourOf (check (p .i)) (check (p .ii)) (check (p .ij)) (check (p .jj)) ⌝ }
+    ensures { λ r. ⌜ paperFour r ≡ fourOf (check (p .i)) (check (p .ii)) (check (p .ij)) (check (p .jj)) ⌝ }
 {
     if is_finite(p.i) {
         if is_finite(p.ii) {
@@ -119,38 +119,38 @@ pub fn poly_jj_powi(vi: f64, vj: f64, is: &[i32], js: &[i32], ns: &[f64]) -> Ans
 
 // The sum, and derived by vj.
 pub fn polys_0_j_powi(vi: f64, vj: f64, is: &[i32], js: &[i32], ns: &[f64]) -> PairAnswer
-    ensures { λ r. ⌜ pairPaper r ≡ pairTable Order.Zero Share.Whole Share.J vi vj (now (is .entry)) (now (js .entry)) (now (ns .entry)) ⌝ }
+    ensures { λ r. ⌜ paperPair r ≡ pairTable Order.Zero Share.Whole Share.J vi vj (now (is .entry)) (now (js .entry)) (now (ns .entry)) ⌝ }
 {
     table_pair(Order::Zero, Share::Whole, Share::J, vi, vj, is, js, ns)
 }
 
 // Derived by vi, and by vj.
 pub fn polys_i_j_powi(vi: f64, vj: f64, is: &[i32], js: &[i32], ns: &[f64]) -> PairAnswer
-    ensures { λ r. ⌜ pairPaper r ≡ pairTable Order.Zero Share.I Share.J vi vj (now (is .entry)) (now (js .entry)) (now (ns .entry)) ⌝ }
+    ensures { λ r. ⌜ paperPair r ≡ pairTable Order.Zero Share.I Share.J vi vj (now (is .entry)) (now (js .entry)) (now (ns .entry)) ⌝ }
 {
     table_pair(Order::Zero, Share::I, Share::J, vi, vj, is, js, ns)
 }
 
 // Derived by vi, and by vi and vj.
 pub fn polys_i_ij_powi(vi: f64, vj: f64, is: &[i32], js: &[i32], ns: &[f64]) -> PairAnswer
-    ensures { λ r. ⌜ pairPaper r ≡ pairTable Order.One Share.Whole Share.J vi vj (now (is .entry)) (now (js .entry)) (now (ns .entry)) ⌝ }
+    ensures { λ r. ⌜ paperPair r ≡ pairTable Order.One Share.Whole Share.J vi vj (now (is .entry)) (now (js .entry)) (now (ns .entry)) ⌝ }
 {
     table_pair(Order::One, Share::Whole, Share::J, vi, vj, is, js, ns)
 }
 
 // Derived by vi, and twice by vi.
 pub fn polys_i_ii_powi(vi: f64, vj: f64, is: &[i32], js: &[i32], ns: &[f64]) -> PairAnswer
-    ensures { λ r. ⌜ pairPaper r ≡ pairTable Order.One Share.Whole Share.Next vi vj (now (is .entry)) (now (js .entry)) (now (ns .entry)) ⌝ }
+    ensures { λ r. ⌜ paperPair r ≡ pairTable Order.One Share.Whole Share.Next vi vj (now (is .entry)) (now (js .entry)) (now (ns .entry)) ⌝ }
 {
     table_pair(Order::One, Share::Whole, Share::Next, vi, vj, is, js, ns)
 }
 
 // Derived by vi, twice by vi, by vi and vj, and twice by vj.
 pub fn polys_i_ii_ij_jj_powi(vi: f64, vj: f64, is: &[i32], js: &[i32], ns: &[f64]) -> FourAnswer
-    ensures { λ r. ⌜ fourPaper r ≡ fourTable vi vj (now (is .entry)) (now (js .entry)) (now (ns .entry)) ⌝ }
+    ensures { λ r. ⌜ paperFour r ≡ fourTable vi vj (now (is .entry)) (now (js .entry)) (now (ns .entry)) ⌝ }
 {
     match examine(Order::Zero, Order::Zero, is, js, ns) {
-        Finding::Taken(reach) => settle_four(const_four(vi, vj, reach, is, js, ns)),
+        Finding::Taken(reach) => settle_four(unchecked_four(vi, vj, reach, is, js, ns)),
         Finding::Refused(k) => FourAnswer::Refused(k),
     }
 }

@@ -1,26 +1,20 @@
 // The powers of one base, worked once by doubling: the power n stands at 64 + n, for n from -64 to 64.
 use crate::Reach;
-use common::is_finite;
+use common::least;
+use common::over;
 ghost use mathlib.Core.Path.{_≡_};
+ghost use mathlib.Core.List.{List};
 ghost use Prim.Native.Nat.{ℕ, _+_, _-_, _<_, _≤_, _^_};
 ghost use lib.Dec.{T};
 ghost use lib.ListN.{length};
 ghost use lib.Ieee.{Float};
-ghost use Rattle.algo.specs.Raw.{rawOver};
-ghost use Rattle.algo.specs.Dense.{squared, Filled, Powers, Stocked, exponentAt};
+ghost use Rattle.algo.specs.Dense.{squared, Written, Powers, Stocked, exponentAt, capped, placeOf};
 ghost use Rattle.algo.specs.Reach.{spans, room};
-
-// x / d, or d where that is lost.
-pub fn over(x: f64, d: f64) -> f64
-    ensures { λ r. ⌜ r ≡ rawOver x d ⌝ }
-{
-    if is_finite(d) { x / d } else { d }
-}
 
 // The first powers of a base make as many of the next, or fewer: w[k + half] = w[k] * sq, with sq the power at half.
 fn double(half: usize, count: usize, sq: f64, w: &mut [f64; 129])
     requires { ⌜ (count ≤ half) × (half + count ≤ 65) ⌝ }
-    ensures { λ _. ⌜ ((a : Float) (h : ℕ) → h ≤ 31 → half ≡ 2 ^ h → sq ≡ squared h a → Filled a (now (w .entry)) 64 (64 + half) → Filled a (now (w .exit)) 64 (64 + half + count)) ⌝ }
+    ensures { λ _. ⌜ ((a : Float) (b : List Float) (h : ℕ) → h ≤ 31 → half ≡ 2 ^ h → sq ≡ squared h a → Written a b (now (w .entry)) 64 (64 + half) → Written a b (now (w .exit)) 64 (64 + half + count)) ⌝ }
 {
     let mut k: usize = 0;
     while k < count {
@@ -29,16 +23,10 @@ fn double(half: usize, count: usize, sq: f64, w: &mut [f64; 129])
     }
 }
 
-pub fn least(a: usize, b: usize) -> usize
-    ensures { λ r. ⌜ r ≡ a - (a - b) ⌝ }
-{
-    if b < a { b } else { a }
-}
-
 // The powers of a from 0 to `top`, or to 7.
 fn fill_up(a: f64, top: usize, w: &mut [f64; 129])
     requires { ⌜ top ≤ 64 ⌝ }
-    ensures { λ _. ⌜ (length (now (w .entry)) ≡ 129 → Filled a (now (w .exit)) 64 (65 + top)) ⌝ }
+    ensures { λ _. ⌜ (length (now (w .entry)) ≡ 129 → Written a (now (w .entry)) (now (w .exit)) 64 (72 + (top - 7))) ⌝ }
 {
     w[64] = 1.0;
     double(1, 1, a, w);
@@ -66,7 +54,7 @@ fn fill_up(a: f64, top: usize, w: &mut [f64; 129])
 // The powers from -1 to -low.
 fn fill_down(low: u32, w: &mut [f64; 129])
     requires { ⌜ low ≤ 64 ⌝ }
-    ensures { λ _. ⌜ ((a : Float) (hi : ℕ) → 65 + low ≤ hi → Filled a (now (w .entry)) 64 hi → Filled a (now (w .exit)) (64 - low) hi) ⌝ }
+    ensures { λ _. ⌜ ((a : Float) (b : List Float) (hi : ℕ) → 65 + low ≤ hi → Written a b (now (w .entry)) 64 hi → Written a b (now (w .exit)) (64 - low) hi) ⌝ }
 {
     let mut k: u32 = 0;
     while k < low {
@@ -76,14 +64,22 @@ fn fill_down(low: u32, w: &mut [f64; 129])
     }
 }
 
-// The powers from -down to up.
-pub fn fill(a: f64, up: u32, down: u32, w: &mut [f64; 129])
-    requires { ⌜ (up ≤ 64) × (down ≤ 64) ⌝ }
+// n, or 64 where that is less.
+fn cap(n: u32) -> u32
+    ensures { λ r. ⌜ r ≡ capped n ⌝ }
+{
+    if n < 64 { n } else { 64 }
+}
+
+// The powers from -down to up, no further than 64 either way.
+pub fn fill_powers(a: f64, up: u32, down: u32, w: &mut [f64; 129])
     ensures { λ _. ⌜ Powers a (now (w .entry)) (now (w .exit)) up down ⌝ }
 {
-    let top: u32 = if up < down { down } else { up };
+    let high = cap(up);
+    let low = cap(down);
+    let top: u32 = if high < low { low } else { high };
     fill_up(a, top as usize, w);
-    fill_down(down, w);
+    fill_down(low, w);
 }
 
 // The powers of both bases.
@@ -91,14 +87,14 @@ pub fn stock(vi: f64, vj: f64, reach: Reach, wi: &mut [f64; 129], wj: &mut [f64;
     requires { ⌜ T (room reach) ⌝ }
     ensures { λ _. ⌜ (length (now (wi .entry)) ≡ 129 → length (now (wj .entry)) ≡ 129 → Stocked vi vj (now (wi .exit)) (now (wj .exit)) reach) ⌝ }
 {
-    fill(vi, reach.up_i, reach.down_i, wi);
-    fill(vj, reach.up_j, reach.down_j, wj);
+    fill_powers(vi, reach.up_i, reach.down_i, wi);
+    fill_powers(vj, reach.up_j, reach.down_j, wj);
 }
 
 // Where the power n stands.
 pub fn place(n: i32) -> usize
     requires { ⌜ T (spans 64 64 n) ⌝ }
-    ensures { λ r. ⌜ (r < 129) × (exponentAt r ≡ n) ⌝ }
+    ensures { λ r. ⌜ (r < 129) × (exponentAt r ≡ n) × (r ≡ placeOf n) ⌝ }
 {
     (n + 64) as usize
 }

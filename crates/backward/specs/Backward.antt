@@ -1,27 +1,36 @@
--- The calls with (p,h), (p,s) and (h,s): 3a up to the dividing line, which belongs to it, and 3b above. Assumes nothing: these are definitions.
+-- To believe: the calls with (p,h), (p,s) and (h,s). The dividing line, the side, the calls for one quantity, and what a record is worked from.
+-- Assumes nothing: these are definitions.
+use Rattle.common.specs.Formula.{_⊕_, _⊗_, _⊘_}
+use mathlib.Core.Bool.{cond}
 use lib.IntN.{pos}
 use lib.Ieee.{Float, le}
-use Rattle.common.specs.Outcome.{Outcome, value, then, pick}
-use Rattle.common.specs.Decimal.{more, less, whole, minus}
-use Rattle.common.specs.Constant.{P-FROM, P-TO, H-FROM, H-TO, S-FROM, S-TO, SC-WATER}
-use Rattle.common.specs.Range.{pairRule}
-use Rattle.rules.specs.Formula.{_⊕_, _⊗_, _⊘_}
-use Rattle.state.specs.State.{pressureOf, temperatureOf, volumeOf}
+use Rattle.common.specs.Outcome.{Outcome, value, refused, then}
+use Rattle.common.specs.Answer.{numberOf}
+use Rattle.common.specs.Decimal.{plus, minus, whole, negative}
+use Rattle.common.specs.Constant.{SC-WATER}
+use Rattle.common.specs.Range.{hsBox, phBox, psBox}
+use Rattle.record.specs.State.{pressureOf, temperatureOf, densityOf, volumeOf}
 use Rattle.backward.specs.Equation.{worked}
+use Rattle.backward.specs.declared.Side.{Side}
+use Rattle.backward.specs.declared.Side.the-variants.{A, B}
+use Rattle.backward.specs.declared.SideAnswer.{SideAnswer}
+use Rattle.backward.specs.declared.SideAnswer.the-variants as sides
+use Rattle.backward.specs.declared.TvdAnswer.{TvdAnswer}
+use Rattle.backward.specs.declared.TvdAnswer.the-variants as founds
 use Rattle.backward.specs.declared.Equation.{Equation}
 use Rattle.backward.specs.declared.Equation.the-variants.{T3aPh, T3bPh, V3aPh, V3bPh, T3aPs, T3bPs, V3aPs, V3bPs, P3aHs, P3bHs}
 
 abbrev pub n1 : Outcome Float
-n1 = value (more 0_201464004206875 (pos 4))
+n1 = value (plus 15 0_201464004206875 (pos 4))
 
 abbrev pub n2 : Outcome Float
-n2 = value (more 0_374696550136983 (pos 1))
+n2 = value (plus 15 0_374696550136983 (pos 1))
 
 abbrev pub n3 : Outcome Float
-n3 = value (less 0_219921901054187 (minus 1))
+n3 = value (minus 15 0_219921901054187 (negative 1))
 
 abbrev pub n4 : Outcome Float
-n4 = value (more 0_875131686009950 (minus 4))
+n4 = value (plus 15 0_875131686009950 (negative 4))
 
 -- S03rev, equation 1 with table 2, nested as in the Rust; p* is 1 MPa and h* is 1 kJ/kg
 unfoldable pub h3ab : Float → Outcome Float
@@ -29,30 +38,69 @@ h3ab p =
     let π = value p ⊘ value (whole 1) in
     (n1 ⊕ π ⊗ (n2 ⊕ π ⊗ (n3 ⊕ n4 ⊗ π))) ⊗ value (whole 1)
 
--- by the equation a up to the dividing enthalpy, by b above it
-unfoldable pub bySide-h : Equation → Equation → Float → Float → Outcome Float
-unfolding h3ab
-bySide-h a b p h = then (h3ab p) (λ line. pick (le h line) (worked a p h) (worked b p h))
+-- ---- the side, chosen once
 
--- by the equation a up to the critical entropy, by b above it
-abbrev pub bySide-s : Equation → Equation → Float → Float → Outcome Float
-bySide-s a b x s = pick (le s SC-WATER) (worked a x s) (worked b x s)
+-- the paper's number and value for each case
+abbrev pub paperSide : SideAnswer → Outcome Side
+paperSide (sides.Value x) = value x
+paperSide (sides.Refused k) = refused (numberOf k)
+
+-- of p and h: the dividing enthalpy belongs to 3a
+unfoldable pub side-ph : Float → Float → Outcome Side
+unfolding h3ab
+side-ph p h = then (h3ab p) (λ line. value (cond (le h line) A B))
+
+-- of s: the critical entropy belongs to 3a
+abbrev pub side-s : Float → Side
+side-s s = cond (le s SC-WATER) A B
+
+-- the equation of a side
+abbrev pub ofSide : Side → Equation → Equation → Equation
+ofSide A a b = a
+ofSide B a b = b
+
+-- what an entropy gives, with p or h as x, by the equation of its side
+abbrev pub by-s : Equation → Equation → Float → Float → Outcome Float
+by-s a b x s = worked (ofSide (side-s s) a b) x s
 
 -- ---- the calls
 
 unfoldable pub ph2T-reg3Rule : Float → Float → Outcome Float
-unfolding bySide-h
-ph2T-reg3Rule p h = then (pairRule P-FROM P-TO p H-FROM H-TO h) (λ _. temperatureOf (bySide-h T3aPh T3bPh p h))
+unfolding side-ph
+ph2T-reg3Rule p h = then (phBox p h) (λ _. then (side-ph p h) (λ side. temperatureOf (worked (ofSide side T3aPh T3bPh) p h)))
 
 unfoldable pub ph2v-reg3Rule : Float → Float → Outcome Float
-unfolding bySide-h
-ph2v-reg3Rule p h = then (pairRule P-FROM P-TO p H-FROM H-TO h) (λ _. volumeOf (bySide-h V3aPh V3bPh p h))
+unfolding side-ph
+ph2v-reg3Rule p h = then (phBox p h) (λ _. then (side-ph p h) (λ side. volumeOf (worked (ofSide side V3aPh V3bPh) p h)))
 
 unfoldable pub ps2T-reg3Rule : Float → Float → Outcome Float
-ps2T-reg3Rule p s = then (pairRule P-FROM P-TO p S-FROM S-TO s) (λ _. temperatureOf (bySide-s T3aPs T3bPs p s))
+ps2T-reg3Rule p s = then (psBox p s) (λ _. temperatureOf (by-s T3aPs T3bPs p s))
 
 unfoldable pub ps2v-reg3Rule : Float → Float → Outcome Float
-ps2v-reg3Rule p s = then (pairRule P-FROM P-TO p S-FROM S-TO s) (λ _. volumeOf (bySide-s V3aPs V3bPs p s))
+ps2v-reg3Rule p s = then (psBox p s) (λ _. volumeOf (by-s V3aPs V3bPs p s))
 
 unfoldable pub hs2p-reg3Rule : Float → Float → Outcome Float
-hs2p-reg3Rule h s = then (pairRule H-FROM H-TO h S-FROM S-TO s) (λ _. pressureOf (bySide-s P3aHs P3bHs h s))
+hs2p-reg3Rule h s = then (hsBox h s) (λ _. pressureOf (by-s P3aHs P3bHs h s))
+
+-- ---- what a record is worked from, at any p, h and s: no box is looked at
+
+pub record Tvd : Type 0 where
+  pub T : Float
+  pub v : Float
+  pub d : Float
+
+-- the paper's number and values for each case
+abbrev pub paperTvd : TvdAnswer → Outcome Tvd
+paperTvd (founds.Value t v d) = value (record { T = t; v = v; d = d })
+paperTvd (founds.Refused k) = refused (numberOf k)
+
+-- T with its test, v, d = 1/v with its test
+abbrev pub tvdOf : Outcome Float → Outcome Float → Outcome Tvd
+tvdOf ofT ofV = then (temperatureOf ofT) (λ t. then ofV (λ v. then (densityOf (value v)) (λ d. value (record { T = t; v = v; d = d }))))
+
+unfoldable pub tvd-ph : Float → Float → Outcome Tvd
+unfolding side-ph
+tvd-ph p h = then (side-ph p h) (λ side. tvdOf (worked (ofSide side T3aPh T3bPh) p h) (worked (ofSide side V3aPh V3bPh) p h))
+
+unfoldable pub tvd-ps : Float → Float → Outcome Tvd
+tvd-ps p s = tvdOf (by-s T3aPs T3bPs p s) (by-s V3aPs V3bPs p s)

@@ -2,7 +2,7 @@
 use crate::Equation;
 use crate::Form;
 use crate::columns::sum;
-use rules::over;
+use common::over;
 ghost use mathlib.Core.Path.{_≡_};
 ghost use Rattle.common.specs.Outcome.{check};
 ghost use Rattle.backward.specs.Equation.{tableOf, formOf, workedBy, worked};

@@ -1,12 +1,14 @@
 // Pressure from (h,s): S04rev.
 use crate::Equation;
-use crate::region3_Tv_phps::raw_xs;
+use crate::region3_Tv_phps::raw_on;
+use crate::region3_Tv_phps::side_s;
 use common::Answer;
 use common::KJPerKg;
 use common::KJPerKgK;
+use common::MPa;
 use common::Verdict;
 use common::check_hs;
-use state::settle_p;
+use record::settle_p;
 ghost use mathlib.Core.Path.{_≡_};
 ghost use Rattle.common.specs.Answer.{paper};
 ghost use Rattle.backward.specs.Backward.{hs2p-reg3Rule};
@@ -16,7 +18,9 @@ pub fn hs2p_reg3(h: KJPerKg, s: KJPerKgK) -> Answer
     ensures { λ r. ⌜ paper r ≡ hs2p-reg3Rule (h .0) (s .0) ⌝ }
 {
     match check_hs(h, s) {
-        Verdict::Accepted => settle_p(raw_xs(h.0, s.0, Equation::P3aHs, Equation::P3bHs)),
+        Verdict::Accepted => {
+            settle_p(MPa(raw_on(side_s(s.0), Equation::P3aHs, Equation::P3bHs, h.0, s.0)))
+        }
         Verdict::Refused(k) => Answer::Refused(k),
     }
 }

@@ -1,6 +1,6 @@
-pub mod Boundaries
-pub mod Tests
+pub mod TableSums
+pub mod Published
 pub mod Limit
 pub mod Points
-pub mod Published
 pub mod Unique
+pub mod Pins

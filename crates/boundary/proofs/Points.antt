@@ -1,19 +1,19 @@
--- The points of document 01 that these crates and the rules answer, worked out by antt from the definitions: one table, one statement. The starred
+-- The points of docs/SCOPE.md that these crates and the rules answer, worked out by antt from the definitions: one table, one statement. The starred
 -- ones come first. Assumes nothing.
 use mathlib.Core.Path.{_≡_, refl}
 use mathlib.Core.List.{List, [], _∷_, map}
 use lib.IntN.{ℤ, pos}
 use lib.Ieee.{Float, nan, round, neg, add, sub, sum, mul, div, ofInt, le, lt, eq}
 use Rattle.common.specs.Outcome.{Outcome, value, refused}
-use Rattle.common.specs.Decimal.{scaled, decimal, whole, minus, more, less}
+use Rattle.common.specs.Decimal.{scaled, decimal, whole, negative, plus, minus}
 use Rattle.common.specs.Sum.{total}
-use Rattle.letter.specs.declared.Letter.{Letter}
-use Rattle.letter.specs.declared.Letter.the-variants.{A, B, C, G, H, I, J, K, L, T}
+use Rattle.subregion.specs.declared.Letter.{Letter}
+use Rattle.subregion.specs.declared.Letter.the-variants.{A, B, C, G, H, I, J, K, L, T}
 use Rattle.rules.specs.Units.{inUnits}
-use Rattle.rules.specs.Power.{powerRule, rungsC}
+use Rattle.rules.specs.Power.{powerRule}
 use Rattle.rules.specs.Root.{rootRule, nearestRoot, wholeRoot}
-use Rattle.rules.specs.Log.{logarithmRule, lnOf, lnSteps, series, inverse, number, L as ln2}
-use Rattle.rules.specs.Exp.{exponentialRule, expSteps, nearestWhole, turns}
+use Rattle.rules.specs.Log.{logarithmRule, L as ln2}
+use Rattle.rules.specs.Exp.{exponentialRule}
 use Rattle.r4.specs.Saturation.{p-saturation, T-saturation}
 use Rattle.boundary.specs.Boundary.{boundaryRule, formRule, straight3ef, table3ab, table3cd, table3gh, table3ij, table3jk}
 use Rattle.boundary.specs.Choice.{letterRule, letterAt, limit, abRule, cdefRule, chijkRule, ctRule}
@@ -65,7 +65,7 @@ points =
     ∷ (letter (decimal 23_2 1) (whole 648) gives is L)
     ∷ (letter (whole 40) (whole 630) gives is C)
     ∷ (ef (decimal 22_064 3) gives be (decimal 647_096 3))
-    ∷ (power (whole 2) (minus 3) gives be (decimal 0_125 3))
+    ∷ (power (whole 2) (negative 3) gives be (decimal 0_125 3))
     ∷ (power (whole 0) (pos 0) gives be (whole 1))
     ∷ (ln (whole 1) gives be (whole 0))
     ∷ (exp (whole 0) gives be (whole 1))
@@ -81,5 +81,5 @@ points =
     ∷ []
 
 pub points-hold : map got points ≡ map wanted points
-unfolding got wanted points letterRule letterAt limit p-saturation T-saturation abRule cdefRule chijkRule ctRule boundaryRule formRule straight3ef total table3ab table3cd table3gh table3ij table3jk powerRule rungsC rootRule nearestRoot wholeRoot logarithmRule lnOf lnSteps series inverse number ln2 exponentialRule expSteps nearestWhole turns inUnits decimal whole more less scaled round neg add sub sum mul div ofInt le lt eq
+unfolding got wanted points letterRule letterAt limit p-saturation T-saturation abRule cdefRule chijkRule ctRule boundaryRule formRule straight3ef total table3ab table3cd table3gh table3ij table3jk powerRule rootRule nearestRoot wholeRoot logarithmRule ln2 exponentialRule inUnits decimal whole plus minus scaled round neg add sub sum mul div ofInt le lt eq
 points-hold = refl

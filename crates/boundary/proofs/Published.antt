@@ -3,11 +3,11 @@ use mathlib.Core.Path.{_≡_, refl}
 use mathlib.Core.Bool.{true}
 use mathlib.Core.List.{List, [], _∷_}
 use lib.Ieee.{round, neg, add, sub, sum, mul, div, ofInt, le}
-use Rattle.common.specs.Decimal.{scaled, decimal, whole, more, less}
+use Rattle.common.specs.Decimal.{scaled, decimal, whole, plus, minus}
 use Rattle.common.specs.Sum.{total, every}
 use Rattle.rules.specs.Units.{inUnits}
-use Rattle.rules.specs.Power.{powerRule, rungsC}
-use Rattle.rules.specs.Log.{logarithmRule, lnOf, lnSteps, series, inverse, number, L}
+use Rattle.rules.specs.Power.{powerRule}
+use Rattle.rules.specs.Log.{logarithmRule, L}
 use Rattle.r4.proofs.Published.{Value, prints, agrees}
 use Rattle.boundary.specs.Boundary.{boundaryRule, formRule, straight3ef, table3ab, table3cd, table3gh, table3ij, table3jk, table3mn, table3op, table3qu, table3rx, table3uv, table3wx}
 use Rattle.boundary.specs.declared.Boundary.the-variants.{Ab, Cd, Ef, Gh, Ij, Jk, Mn, Op, Qu, Rx, Uv, Wx}
@@ -29,5 +29,5 @@ values =
     ∷ []
 
 pub values-agree : every agrees values ≡ true
-unfolding values every boundaryRule formRule straight3ef total table3ab table3cd table3gh table3ij table3jk table3mn table3op table3qu table3rx table3uv table3wx powerRule rungsC logarithmRule lnOf lnSteps series inverse number L inUnits scaled decimal whole more less round neg add sub sum mul div ofInt le
+unfolding values every boundaryRule formRule straight3ef total table3ab table3cd table3gh table3ij table3jk table3mn table3op table3qu table3rx table3uv table3wx powerRule logarithmRule L inUnits scaled decimal whole plus minus round neg add sub sum mul div ofInt le
 values-agree = refl

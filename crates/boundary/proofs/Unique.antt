@@ -1,8 +1,8 @@
 -- Each contract admits one answer. Assumes nothing.
 use Rattle.common.proofs.Same.{One, same-answer}
-use Rattle.letter.proofs.Unique.{same-choice}
-use Rattle.boundary.proofs.lines.T_atRegionBoundary.Kinds as line-kinds
-use Rattle.boundary.proofs.lines.T_atRegionBoundary.Reads as line
+use Rattle.subregion.proofs.Unique.{same-choice}
+use Rattle.boundary.proofs.boundaries.T_atRegionBoundary.Kinds as line-kinds
+use Rattle.boundary.proofs.boundaries.T_atRegionBoundary.Reads as line
 use Rattle.boundary.proofs.bands.letter_at.Kinds as at-kinds
 use Rattle.boundary.proofs.bands.letter_at.Reads as at
 use Rattle.boundary.proofs.bands.sub_region3_pT.Kinds as letter-kinds

@@ -1,31 +1,31 @@
 // The bands by p. Each works its boundaries out, tests once that none is lost, and hands them to its chooser.
 use crate::Boundary;
-use crate::letter_by::Near;
-use crate::letter_by::by_ab;
-use crate::letter_by::by_cdef;
-use crate::letter_by::by_chijk;
-use crate::letter_by::by_clmnopjk;
-use crate::letter_by::by_csrk;
-use crate::letter_by::by_cst;
-use crate::letter_by::by_ct;
-use crate::letter_by::by_saturated;
-use crate::letter_by::by_uvwx;
-use crate::letter_by::by_uyzx;
-use crate::letter_by::round_critical;
-use crate::lines::raw_boundary;
+use crate::boundaries::raw_boundary;
+use choosers::Near;
+use choosers::by_ab;
+use choosers::by_cdef;
+use choosers::by_chijk;
+use choosers::by_clmnopjk;
+use choosers::by_csrk;
+use choosers::by_cst;
+use choosers::by_ct;
+use choosers::by_saturated;
+use choosers::by_uvwx;
+use choosers::by_uyzx;
+use choosers::round_critical;
 use common::Kelvin;
 use common::MPa;
 use common::Refusal;
 use common::Verdict;
 use common::check_pT;
 use common::is_finite;
-use letter::Choice;
-use letter::Letter;
 use r4::raw_T_saturation;
+use subregion::Letter;
+use subregion::LetterAnswer;
 ghost use mathlib.Core.Path.{_≡_};
 ghost use Rattle.common.specs.Outcome.{finite};
 ghost use Rattle.common.specs.Sum.{every};
-ghost use Rattle.letter.specs.Letter.{chosen};
+ghost use Rattle.subregion.specs.Letter.{paperLetter};
 ghost use Rattle.boundary.specs.Choice.{abRule, cdefRule, chijkRule, clmnopjkRule, nearRule, cq-rkRule, csrkRule, cstRule, ctRule, letterAt, letterRule};
 
 // p_saturation(643.15).
@@ -45,30 +45,30 @@ fn all_finite(ts: &[f64]) -> bool
     true
 }
 
-fn band_ab(p: f64, t: f64) -> Choice
-    ensures { λ r. ⌜ chosen r ≡ abRule p t ⌝ }
+fn band_ab(p: f64, t: f64) -> LetterAnswer
+    ensures { λ r. ⌜ paperLetter r ≡ abRule p t ⌝ }
 {
     let tab = raw_boundary(Boundary::Ab, p);
     if all_finite(&[tab]) {
-        return Choice::Taken(by_ab(tab, t));
+        return LetterAnswer::Value(by_ab(Kelvin(tab), Kelvin(t)));
     }
-    Choice::Refused(Refusal::Step)
+    LetterAnswer::Refused(Refusal::Step)
 }
 
-fn band_cdef(p: f64, t: f64) -> Choice
-    ensures { λ r. ⌜ chosen r ≡ cdefRule p t ⌝ }
+fn band_cdef(p: f64, t: f64) -> LetterAnswer
+    ensures { λ r. ⌜ paperLetter r ≡ cdefRule p t ⌝ }
 {
     let tab = raw_boundary(Boundary::Ab, p);
     let tcd = raw_boundary(Boundary::Cd, p);
     let tef = raw_boundary(Boundary::Ef, p);
     if all_finite(&[tab, tcd, tef]) {
-        return Choice::Taken(by_cdef(tcd, tab, tef, t));
+        return LetterAnswer::Value(by_cdef(Kelvin(tcd), Kelvin(tab), Kelvin(tef), Kelvin(t)));
     }
-    Choice::Refused(Refusal::Step)
+    LetterAnswer::Refused(Refusal::Step)
 }
 
-fn band_chijk(second: Letter, p: f64, t: f64) -> Choice
-    ensures { λ r. ⌜ chosen r ≡ chijkRule second p t ⌝ }
+fn band_chijk(second: Letter, p: f64, t: f64) -> LetterAnswer
+    ensures { λ r. ⌜ paperLetter r ≡ chijkRule second p t ⌝ }
 {
     let tcd = raw_boundary(Boundary::Cd, p);
     let tef = raw_boundary(Boundary::Ef, p);
@@ -76,13 +76,21 @@ fn band_chijk(second: Letter, p: f64, t: f64) -> Choice
     let tij = raw_boundary(Boundary::Ij, p);
     let tjk = raw_boundary(Boundary::Jk, p);
     if all_finite(&[tcd, tef, tgh, tij, tjk]) {
-        return Choice::Taken(by_chijk(second, tcd, tgh, tef, tij, tjk, t));
+        return LetterAnswer::Value(by_chijk(
+            second,
+            Kelvin(tcd),
+            Kelvin(tgh),
+            Kelvin(tef),
+            Kelvin(tij),
+            Kelvin(tjk),
+            Kelvin(t),
+        ));
     }
-    Choice::Refused(Refusal::Step)
+    LetterAnswer::Refused(Refusal::Step)
 }
 
-fn band_clmnopjk(p: f64, t: f64) -> Choice
-    ensures { λ r. ⌜ chosen r ≡ clmnopjkRule p t ⌝ }
+fn band_clmnopjk(p: f64, t: f64) -> LetterAnswer
+    ensures { λ r. ⌜ paperLetter r ≡ clmnopjkRule p t ⌝ }
 {
     let tcd = raw_boundary(Boundary::Cd, p);
     let tef = raw_boundary(Boundary::Ef, p);
@@ -92,86 +100,107 @@ fn band_clmnopjk(p: f64, t: f64) -> Choice
     let tmn = raw_boundary(Boundary::Mn, p);
     let top = raw_boundary(Boundary::Op, p);
     if all_finite(&[tcd, tef, tgh, tij, tjk, tmn, top]) {
-        return Choice::Taken(by_clmnopjk(tcd, tgh, tmn, tef, top, tij, tjk, t));
+        return LetterAnswer::Value(by_clmnopjk(
+            Kelvin(tcd),
+            Kelvin(tgh),
+            Kelvin(tmn),
+            Kelvin(tef),
+            Kelvin(top),
+            Kelvin(tij),
+            Kelvin(tjk),
+            Kelvin(t),
+        ));
     }
-    Choice::Refused(Refusal::Step)
+    LetterAnswer::Refused(Refusal::Step)
 }
 
-fn band_csrk(p: f64, t: f64) -> Choice
-    ensures { λ r. ⌜ chosen r ≡ csrkRule p t ⌝ }
+fn band_csrk(p: f64, t: f64) -> LetterAnswer
+    ensures { λ r. ⌜ paperLetter r ≡ csrkRule p t ⌝ }
 {
     let tcd = raw_boundary(Boundary::Cd, p);
     let tjk = raw_boundary(Boundary::Jk, p);
-    let tsat = raw_T_saturation(p);
+    let tsat = raw_T_saturation(MPa(p));
     if all_finite(&[tcd, tjk, tsat]) {
-        return Choice::Taken(by_csrk(tcd, tsat, tjk, t));
+        return LetterAnswer::Value(by_csrk(Kelvin(tcd), Kelvin(tsat), Kelvin(tjk), Kelvin(t)));
     }
-    Choice::Refused(Refusal::Step)
+    LetterAnswer::Refused(Refusal::Step)
 }
 
-fn band_cst(p: f64, t: f64) -> Choice
-    ensures { λ r. ⌜ chosen r ≡ cstRule p t ⌝ }
+fn band_cst(p: f64, t: f64) -> LetterAnswer
+    ensures { λ r. ⌜ paperLetter r ≡ cstRule p t ⌝ }
 {
     let tcd = raw_boundary(Boundary::Cd, p);
-    let tsat = raw_T_saturation(p);
+    let tsat = raw_T_saturation(MPa(p));
     if all_finite(&[tcd, tsat]) {
-        return Choice::Taken(by_cst(tcd, tsat, t));
+        return LetterAnswer::Value(by_cst(Kelvin(tcd), Kelvin(tsat), Kelvin(t)));
     }
-    Choice::Refused(Refusal::Step)
+    LetterAnswer::Refused(Refusal::Step)
 }
 
-fn band_ct(p: f64, t: f64) -> Choice
-    ensures { λ r. ⌜ chosen r ≡ ctRule p t ⌝ }
+fn band_ct(p: f64, t: f64) -> LetterAnswer
+    ensures { λ r. ⌜ paperLetter r ≡ ctRule p t ⌝ }
 {
-    let tsat = raw_T_saturation(p);
+    let tsat = raw_T_saturation(MPa(p));
     if all_finite(&[tsat]) {
-        return Choice::Taken(by_ct(tsat, t));
+        return LetterAnswer::Value(by_ct(Kelvin(tsat), Kelvin(t)));
     }
-    Choice::Refused(Refusal::Step)
+    LetterAnswer::Refused(Refusal::Step)
 }
 
 // The small regions round the critical point.
-fn band_near(p: f64, t: f64) -> Choice
-    ensures { λ r. ⌜ chosen r ≡ nearRule p t ⌝ }
+fn band_near(p: f64, t: f64) -> LetterAnswer
+    ensures { λ r. ⌜ paperLetter r ≡ nearRule p t ⌝ }
 {
     let tuv = raw_boundary(Boundary::Uv, p);
     let twx = raw_boundary(Boundary::Wx, p);
     let tef = raw_boundary(Boundary::Ef, p);
     if all_finite(&[tuv, twx, tef]) {
         if p > 22.11 {
-            return Choice::Taken(by_uvwx(tuv, tef, twx, t));
+            return LetterAnswer::Value(by_uvwx(Kelvin(tuv), Kelvin(tef), Kelvin(twx), Kelvin(t)));
         }
         if p > 22.064 {
-            return Choice::Taken(by_uyzx(tuv, tef, twx, t));
+            return LetterAnswer::Value(by_uyzx(Kelvin(tuv), Kelvin(tef), Kelvin(twx), Kelvin(t)));
         }
-        let tsat = raw_T_saturation(p);
+        let tsat = raw_T_saturation(MPa(p));
         if is_finite(tsat) {
-            return Choice::Taken(by_saturated(tsat, tuv, twx, p, t));
+            return LetterAnswer::Value(by_saturated(
+                Kelvin(tsat),
+                Kelvin(tuv),
+                Kelvin(twx),
+                MPa(p),
+                Kelvin(t),
+            ));
         }
-        return Choice::Refused(Refusal::Step);
+        return LetterAnswer::Refused(Refusal::Step);
     }
-    Choice::Refused(Refusal::Step)
+    LetterAnswer::Refused(Refusal::Step)
 }
 
-fn band_cq_rk(p: f64, t: f64) -> Choice
-    ensures { λ r. ⌜ chosen r ≡ cq-rkRule p t ⌝ }
+fn band_cq_rk(p: f64, t: f64) -> LetterAnswer
+    ensures { λ r. ⌜ paperLetter r ≡ cq-rkRule p t ⌝ }
 {
     let tcd = raw_boundary(Boundary::Cd, p);
     let tqu = raw_boundary(Boundary::Qu, p);
     let trx = raw_boundary(Boundary::Rx, p);
     let tjk = raw_boundary(Boundary::Jk, p);
     if all_finite(&[tcd, tqu, trx, tjk]) {
-        match round_critical(tcd, tqu, trx, tjk, t) {
-            Near::Found(l) => return Choice::Taken(l),
+        match round_critical(
+            Kelvin(tcd),
+            Kelvin(tqu),
+            Kelvin(trx),
+            Kelvin(tjk),
+            Kelvin(t),
+        ) {
+            Near::Found(l) => return LetterAnswer::Value(l),
             Near::Inside => return band_near(p, t),
         }
     }
-    Choice::Refused(Refusal::Step)
+    LetterAnswer::Refused(Refusal::Step)
 }
 
-// The letter by the bands alone, for a caller that has tested the box.
-pub fn letter_at(p: f64, t: f64) -> Choice
-    ensures { λ r. ⌜ chosen r ≡ letterAt p t ⌝ }
+// The letter by the bands, of bare numbers.
+fn by_bands(p: f64, t: f64) -> LetterAnswer
+    ensures { λ r. ⌜ paperLetter r ≡ letterAt p t ⌝ }
 {
     if p > 40.0 {
         if p <= 100.0 {
@@ -203,12 +232,19 @@ pub fn letter_at(p: f64, t: f64) -> Choice
     band_ct(p, t)
 }
 
+// The letter by the bands alone, whatever p and t are: no box is tested. For calls that have tested one of their own.
+pub fn letter_at(p: MPa, t: Kelvin) -> LetterAnswer
+    ensures { λ r. ⌜ paperLetter r ≡ letterAt (p .0) (t .0) ⌝ }
+{
+    by_bands(p.0, t.0)
+}
+
 // The letter of the subregion that (p, t) lies in.
-pub fn sub_region3_pT(p: MPa, t: Kelvin) -> Choice
-    ensures { λ r. ⌜ chosen r ≡ letterRule (p .0) (t .0) ⌝ }
+pub fn sub_region3_pT(p: MPa, t: Kelvin) -> LetterAnswer
+    ensures { λ r. ⌜ paperLetter r ≡ letterRule (p .0) (t .0) ⌝ }
 {
     match check_pT(p, t) {
-        Verdict::Accepted => letter_at(p.0, t.0),
-        Verdict::Refused(k) => Choice::Refused(k),
+        Verdict::Accepted => letter_at(p, t),
+        Verdict::Refused(k) => LetterAnswer::Refused(k),
     }
 }

@@ -1,11 +1,11 @@
-// The boundaries between the subregions of region 3 and the choice of a subregion's letter: S05rev, and document 01 where they differ.
+// The twelve boundaries between the subregions of region 3 (`boundaries`: S05rev, equations 1 to 3) and the choice of a point's letter by them
+// (`bands`), both of the Rust's r3/region3_v_pT.rs.
 mod bands;
-mod letter_by;
-mod lines;
+mod boundaries;
 
 pub use bands::letter_at;
 pub use bands::sub_region3_pT;
-pub use lines::T_atRegionBoundary;
+pub use boundaries::T_atRegionBoundary;
 
 // A boundary between two subregions.
 pub enum Boundary {

@@ -1,4 +1,5 @@
 -- Numbers in bytes, the little end first. Assumes nothing: these are definitions.
+use mathlib.Core.Bool.{cond}
 use Prim.Native.Nat.{ℕ, zero, suc, _+_, _*_, _-_, _/_, _%_, _^_}
 use mathlib.Core.List.{List, [], _∷_, _++_}
 use lib.Dec.{leb, ltb}
@@ -6,7 +7,7 @@ use lib.IntN.{ℤ, pos, negsuc}
 use lib.ListN.{length, getD}
 use lib.Seq.{sets}
 use lib.Ieee.{Float, binary64, ofBits}
-use Rattle.common.specs.Outcome.{pick, zeroF}
+use Rattle.common.specs.Outcome.{zeroF}
 
 -- the pieces 0 to n - 1, joined
 unfoldable pub joined : {A : Type 0} → (ℕ → List A) → ℕ → List A
@@ -27,14 +28,14 @@ floatAt s i = ofBits binary64 (wordAt s i)
 
 -- a number below 2^32 with a sign: from 2^31 on it stands for itself less 2^32
 unfoldable pub signed : ℕ → ℤ
-signed n = pick (ltb n (2 ^ 31)) (pos n) (negsuc (2 ^ 32 - suc n))
+signed n = cond (ltb n (2 ^ 31)) (pos n) (negsuc (2 ^ 32 - suc n))
 
 -- four bytes with a sign, and the float of eight: 0 where they do not lie in the bytes
 abbrev pub intIn : List ℕ → ℕ → ℤ
-intIn s i = pick (leb (i + 4) (length s)) (signed (halfAt s i)) (pos 0)
+intIn s i = cond (leb (i + 4) (length s)) (signed (halfAt s i)) (pos 0)
 
 abbrev pub floatIn : List ℕ → ℕ → Float
-floatIn s i = pick (leb (i + 8) (length s)) (floatAt s i) zeroF
+floatIn s i = cond (leb (i + 8) (length s)) (floatAt s i) zeroF
 
 -- the eight bytes of a number below 2^64
 abbrev pub eight : ℕ → List ℕ
@@ -44,4 +45,4 @@ eight n =
 
 -- xs stored from an index on, where all of it lies in the bytes
 abbrev pub placed : List ℕ → ℕ → List ℕ → List ℕ
-placed s i xs = pick (leb (i + length xs) (length s)) (sets s i xs) s
+placed s i xs = cond (leb (i + length xs) (length s)) (sets s i xs) s

@@ -1,5 +1,9 @@
 pub mod Laws
+pub mod Formulas
 pub mod Sums
 pub mod Calls
+pub mod Arms
 pub mod Same
+pub mod Points
 pub mod Unique
+pub mod Pin

@@ -7,7 +7,7 @@ use contract.Lifetimes.{Lfts}
 use denote.Triple.Clauses.{AtExit}
 use borrow.Fn.Kinds.{PK, RK, Out, Dens, endedOf, resT}
 use Rattle.common.specs.Outcome.{Outcome, value, refused}
-use Rattle.common.specs.Answer.{paper, verdict, numberOf}
+use Rattle.common.specs.Answer.{paper, paperVerdict, numberOf}
 use Rattle.common.specs.declared.Refusal.{Refusal}
 use Rattle.common.specs.declared.Refusal.the-variants.{NotFinite, First, Second, State, Step, Property, Columns}
 use Rattle.common.specs.declared.Answer.{Answer}
@@ -55,13 +55,13 @@ verdictOf : Outcome Unit → Verdict
 verdictOf (value x) = verdicts.Accepted
 verdictOf (refused k) = verdicts.Refused (kindOf k)
 
-verdict-back : (r : Verdict) → verdictOf (verdict r) ≡ r
+verdict-back : (r : Verdict) → verdictOf (paperVerdict r) ≡ r
 unfolding verdictOf
 verdict-back verdicts.Accepted = refl
 verdict-back (verdicts.Refused k) = ap verdicts.Refused (kind-number k)
 
-pub same-verdict : (o : Outcome Unit) (r s : Verdict) → verdict r ≡ o → verdict s ≡ o → r ≡ s
-same-verdict = same verdict verdictOf verdict-back
+pub same-verdict : (o : Outcome Unit) (r s : Verdict) → paperVerdict r ≡ o → paperVerdict s ≡ o → r ≡ s
+same-verdict = same paperVerdict verdictOf verdict-back
 
 -- of any arguments, a contract admits one result (for a function with no `&mut`)
 abbrev pub One : (n : ℕ) (ps : List (PK n)) (r : RK n) → Out n ps r → Type 0

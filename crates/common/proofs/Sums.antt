@@ -1,18 +1,18 @@
 -- A sum with a check at each step is the raw sum checked once, over any rows and any kind of term. Assumes nothing.
 use mathlib.Core.Path.{_≡_, refl, sym}
-use mathlib.Core.Bool.{Bool, true, false}
+use mathlib.Core.Bool.{Bool, true, false, _&&_}
 use mathlib.Core.List.{List, [], _∷_}
 use lib.Dec.{T}
 use lib.Ieee.{Float, binary64, add}
 use Rattle.common.specs.Outcome.{Outcome, finite, check, then}
-use Rattle.common.specs.Sum.{both, total, rawTotal, every}
+use Rattle.common.specs.Sum.{total, rawTotal, every}
 use Rattle.common.proofs.Laws.{Lost, add-left, add-right, check-kept, step}
 
-pub both-left : (a b : Bool) → T (both a b) → T a
+pub both-left : (a b : Bool) → T (a && b) → T a
 both-left true b t = tt
 both-left false b t = absurd t
 
-pub both-right : (a b : Bool) → T (both a b) → T b
+pub both-right : (a b : Bool) → T (a && b) → T b
 both-right true b t = t
 both-right false b t = absurd t
 

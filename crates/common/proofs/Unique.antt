@@ -4,6 +4,8 @@ use mathlib.Core.Path.{sym, _∙_}
 use Rattle.common.proofs.Same.{One, same-answer, same-verdict}
 use Rattle.common.proofs.constants.Kinds as constants-kinds
 use Rattle.common.proofs.constants.Reads as constants
+use Rattle.common.proofs.property_numbers.Kinds as property-numbers-kinds
+use Rattle.common.proofs.property_numbers.Reads as property-numbers
 use Rattle.common.proofs.is_finite.Kinds as is-finite-kinds
 use Rattle.common.proofs.is_finite.Reads as is-finite
 use Rattle.common.proofs.settle.Kinds as settle-kinds
@@ -12,6 +14,10 @@ use Rattle.common.proofs.or_nan.Kinds as or-nan-kinds
 use Rattle.common.proofs.or_nan.Reads as or-nan
 use Rattle.common.proofs.number.Kinds as number-kinds
 use Rattle.common.proofs.number.Reads as number
+use Rattle.common.proofs.over.Kinds as over-kinds
+use Rattle.common.proofs.over.Reads as over
+use Rattle.common.proofs.least.Kinds as least-kinds
+use Rattle.common.proofs.least.Reads as least
 use Rattle.common.proofs.verdict_byte.Kinds as verdict-byte-kinds
 use Rattle.common.proofs.verdict_byte.Reads as verdict-byte
 use Rattle.common.proofs.ranged.Kinds as ranged-kinds
@@ -40,6 +46,9 @@ use Rattle.common.proofs.check_hs.Reads as check-hs
 pub constants-one : One 0 constants-kinds.ps constants-kinds.r constants.Post
 constants-one κs a e x y p q = p ∙ sym q
 
+pub property-numbers-one : One 0 property-numbers-kinds.ps property-numbers-kinds.r property-numbers.Post
+property-numbers-one κs a e x y p q = p ∙ sym q
+
 pub is-finite-one : One 0 is-finite-kinds.ps is-finite-kinds.r is-finite.Post
 is-finite-one κs a e x y p q = p ∙ sym q
 
@@ -51,6 +60,12 @@ or-nan-one κs a e x y p q = p ∙ sym q
 
 pub number-one : One 0 number-kinds.ps number-kinds.r number.Post
 number-one κs a e x y p q = p ∙ sym q
+
+pub over-one : One 0 over-kinds.ps over-kinds.r over.Post
+over-one κs a e x y p q = p ∙ sym q
+
+pub least-one : One 0 least-kinds.ps least-kinds.r least.Post
+least-one κs a e x y p q = p ∙ sym q
 
 pub verdict-byte-one : One 0 verdict-byte-kinds.ps verdict-byte-kinds.r verdict-byte.Post
 verdict-byte-one κs a e x y p q = p ∙ sym q

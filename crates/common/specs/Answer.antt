@@ -1,4 +1,7 @@
--- The paper's number and value for each case of an answer. Assumes nothing: these are definitions.
+-- To believe: the paper's number of each refusal, and what an answer says. Every answer of the library is an enum with the same two cases, a value (Value, or
+-- Accepted where no value goes with it) and Refused; its reader, here `paper` and `paperVerdict` and elsewhere `paper` with the answer's name, takes it to
+-- an `Outcome`, and a contract says `paper r ≡ rule arguments`. `numberAndValue` (Outcome) is the number and value of it that the exported calls and the
+-- stored replies hold. Assumes nothing: these are definitions.
 use Prim.Native.Nat.{ℕ}
 use lib.Ieee.{Float}
 use Rattle.common.specs.Outcome.{Outcome, value, refused}
@@ -22,6 +25,6 @@ abbrev pub paper : Answer → Outcome Float
 paper (answer.Value x) = value x
 paper (answer.Refused k) = refused (numberOf k)
 
-abbrev pub verdict : Verdict → Outcome Unit
-verdict verdicts.Accepted = value tt
-verdict (verdicts.Refused k) = refused (numberOf k)
+abbrev pub paperVerdict : Verdict → Outcome Unit
+paperVerdict verdicts.Accepted = value tt
+paperVerdict (verdicts.Refused k) = refused (numberOf k)

@@ -1,7 +1,7 @@
--- The ranges of document 01 and the constants of common/constant.rs, as printed. Assumes nothing: these are definitions.
+-- To believe: the ends of the ranges (docs/SCOPE.md) and the constants of common/constant.rs, as printed. Assumes nothing: these are definitions.
 use mathlib.Core.List.{List, [], _∷_}
 use lib.Ieee.{Float}
-use Rattle.common.specs.Decimal.{decimal, whole, scaled, minus}
+use Rattle.common.specs.Decimal.{decimal, whole, scaled, negative}
 use mathlib.Core.Bool.{false}
 
 -- the box
@@ -44,10 +44,10 @@ T-MAX4 = decimal 647_096 3
 
 -- common/constant.rs
 abbrev pub P-TOL : Float
-P-TOL = scaled false 1 0 (minus 15)
+P-TOL = scaled false 1 0 (negative 15)
 
 abbrev pub T-TOL : Float
-T-TOL = scaled false 1 0 (minus 5)
+T-TOL = scaled false 1 0 (negative 5)
 
 abbrev pub RGAS-WATER : Float
 RGAS-WATER = decimal 0_461526 6

@@ -1,11 +1,11 @@
--- A number as a document prints it: the f64 nearest to a decimal, rounded once. Assumes nothing: these are definitions.
+-- To believe: a number as a document prints it: the f64 nearest to a decimal, rounded once. Assumes nothing: these are definitions.
 use Prim.Native.Nat.{ℕ, suc, _*_, _^_}
 use mathlib.Core.Bool.{Bool, true, false}
 use lib.IntN.{ℤ, pos, negsuc, negℤ}
 use lib.Ieee.{Float, binary64, round}
 
-abbrev pub minus : ℕ → ℤ
-minus n = negℤ (pos n)
+abbrev pub negative : ℕ → ℤ
+negative n = negℤ (pos n)
 
 abbrev pub tens : ℤ → ℕ
 tens (pos k) = 10 ^ k
@@ -30,12 +30,12 @@ unfoldable pub whole : ℕ → Float
 unfolding scaled
 whole n = scaled false n 0 (pos 0)
 
--- The documents print a coefficient as 0.digits * 10^e with 15 digits: `more 0_110879558823853 (minus 2)` is 0.110879558823853 * 10^-2,
--- and `less` is the negative of it.
-unfoldable pub more : ℕ → ℤ → Float
+-- The documents print a coefficient as ±0.digits * 10^e with 14 or 15 digits: `plus 15 0_110879558823853 (negative 2)` is
+-- 0.110879558823853 * 10^-2, and `minus` is the negative of it.
+unfoldable pub plus : ℕ → ℕ → ℤ → Float
 unfolding scaled
-more digits e = scaled false digits 15 e
+plus count digits e = scaled false digits count e
 
-unfoldable pub less : ℕ → ℤ → Float
+unfoldable pub minus : ℕ → ℕ → ℤ → Float
 unfolding scaled
-less digits e = scaled true digits 15 e
+minus count digits e = scaled true digits count e

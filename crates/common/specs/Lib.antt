@@ -1,6 +1,8 @@
 pub mod Outcome
+pub mod Formula
 pub mod Sum
 pub mod Decimal
-pub mod Range
 pub mod Constant
+pub mod Property
+pub mod Range
 pub mod Answer

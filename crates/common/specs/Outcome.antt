@@ -1,4 +1,5 @@
--- What a step of a rule gives: a value, or a refusal with the paper's number. Assumes nothing: these are definitions.
+-- To believe: what a step of a rule gives, a value or a refusal with the paper's number; when a number is lost, and that a lost one is refused with 5; the step
+-- after a step; and the paper's number and value of what came out. Assumes nothing: these are definitions.
 use Prim.Native.Nat.{ℕ}
 use mathlib.Core.Bool.{Bool, true, false}
 use lib.IntN.{pos}
@@ -20,21 +21,6 @@ check nan = refused 5
 check (inf s) = refused 5
 check (fin s m e) = value (fin s m e)
 
-module _ {A : Type 0} where
-  abbrev pub pick : Bool → A → A → A
-  pick true a b = a
-  pick false a b = b
-
-  -- a refusal of a call inside another is 5
-  abbrev pub inside : Outcome A → Outcome A
-  inside (value x) = value x
-  inside (refused k) = refused 5
-
-  -- the paper's number of an outcome: 0 for an accepted call
-  abbrev pub numberIn : Outcome A → ℕ
-  numberIn (value x) = 0
-  numberIn (refused k) = k
-
 -- the next step, from a step's value
 abbrev pub then : {A B : Type 0} → Outcome A → (A → Outcome B) → Outcome B
 then (value x) f = f x
@@ -44,12 +30,30 @@ then (refused k) f = refused k
 abbrev pub zeroF : Float
 zeroF = fin false 0 (pos 0)
 
--- the number in an outcome: +0.0 for a refused call
-abbrev pub valueIn : Outcome Float → Float
-valueIn (value x) = x
-valueIn (refused k) = zeroF
+module _ {A : Type 0} where
+  -- a refusal of a call inside another is 5
+  abbrev pub inside : Outcome A → Outcome A
+  inside (value x) = value x
+  inside (refused k) = refused 5
 
--- the number in an outcome: a NaN for a refused call, so that what is worked out from it is lost too
+  -- the paper's number: 0 for an accepted call
+  abbrev pub numberIn : Outcome A → ℕ
+  numberIn (value x) = 0
+  numberIn (refused k) = k
+
+  -- the paper's value, with what stands for none in a refused call
+  abbrev pub valueOr : A → Outcome A → A
+  valueOr none (value x) = x
+  valueOr none (refused k) = none
+
+  -- the paper's number and value: what a caller is told of an outcome
+  abbrev pub numberAndValue : A → Outcome A → ℕ × A
+  numberAndValue none o = (numberIn o, valueOr none o)
+
+-- of a number, +0.0 stands for none
+abbrev pub valueIn : Outcome Float → Float
+valueIn = valueOr zeroF
+
+-- inside a formula that tests once a NaN does, so that what is worked out from it is lost too
 abbrev pub orNan : Outcome Float → Float
-orNan (value x) = x
-orNan (refused k) = nan
+orNan = valueOr nan

@@ -1,12 +1,9 @@
--- A sum over the rows of a table, in table order, whatever a row and its term are. Assumes nothing: these are definitions.
-use mathlib.Core.Bool.{Bool, true, false}
+-- To believe: `total`, a sum over the rows of a table, in table order, whatever a row and its term are. Helps proofs only: `rawTotal` and `every`.
+-- Assumes nothing: these are definitions.
+use mathlib.Core.Bool.{Bool, true, false, _&&_}
 use mathlib.Core.List.{List, [], _∷_}
 use lib.Ieee.{Float, binary64, add}
 use Rattle.common.specs.Outcome.{Outcome, value, check, then}
-
-abbrev pub both : Bool → Bool → Bool
-both true b = b
-both false b = false
 
 module _ {R : Type 0} where
   -- the terms, added to s one after the other; a term that is refused or a sum that is not finite refuses the whole
@@ -22,4 +19,4 @@ module _ {R : Type 0} where
   -- a test passes at each row
   unfoldable pub every : (R → Bool) → List R → Bool
   every f [] = true
-  every f (r ∷ rs) = both (f r) (every f rs)
+  every f (r ∷ rs) = f r && every f rs

@@ -1,10 +1,14 @@
 // What every layer shares: the units, the refusals, the answer for one number, the ranges and the constants.
-// The meaning of each answer is in specs/Answer.antt, of each range and constant in specs/Constant.antt.
+// What each answer means is in specs/Answer.antt, the ranges in specs/Range.antt, the constants in specs/Constant.antt, the property numbers in
+// specs/Property.antt.
 ghost use mathlib.Core.Path.{_≡_};
+ghost use Prim.Native.Nat.{_-_};
 ghost use Rattle.common.specs.Outcome.{finite, check, orNan, numberIn};
-ghost use Rattle.common.specs.Answer.{numberOf, paper, verdict};
-ghost use Rattle.common.specs.Range.{within, onlyRule, pairRule};
-ghost use Rattle.common.specs.Constant.{printed, P-FROM, P-TO, T-FROM, T-TO, D-FROM, D-TO, H-FROM, H-TO, S-FROM, S-TO};
+ghost use Rattle.common.specs.Formula.{rawOver};
+ghost use Rattle.common.specs.Answer.{numberOf, paper, paperVerdict};
+ghost use Rattle.common.specs.Range.{within, onlyRule, pairRule, TdBox, hsBox, pTBox, phBox, psBox};
+ghost use Rattle.common.specs.Property.{propertyNumbers};
+ghost use Rattle.common.specs.Constant.{printed, P-FROM, P-TO, T-FROM, T-TO, D-FROM, D-TO};
 
 // A pressure.
 pub struct MPa(pub f64);
@@ -166,11 +170,58 @@ pub fn constants() -> [f64; 20]
     ]
 }
 
+// The property numbers, in the order of specs/Property.antt, under one test as the constants are.
+pub fn property_numbers() -> [i32; 25]
+    ensures { λ r. ⌜ r ≡ propertyNumbers ⌝ }
+{
+    [
+        OP,
+        OV,
+        OH,
+        OS,
+        OE,
+        OU,
+        OCP,
+        OCV,
+        OW,
+        OKS,
+        OF,
+        OG,
+        OZ,
+        OEC,
+        OKT,
+        ODVDT,
+        ODVDP,
+        ODPDT,
+        OIJTC,
+        OJTC,
+        OPC,
+        OBETAP,
+        OFI,
+        OFU,
+        OALFAP,
+    ]
+}
+
 pub fn is_finite(x: f64) -> bool
     ensures { λ r. ⌜ r ≡ finite x ⌝ }
 {
     let top: f64 = 1.0 / 0.0;
     if x < top { -top < x } else { false }
+}
+
+// x / y, or y where that is lost: x divided by an infinity is 0 and would hide it.
+pub fn over(x: f64, y: f64) -> f64
+    ensures { λ r. ⌜ r ≡ rawOver x y ⌝ }
+{
+    if is_finite(y) { x / y } else { y }
+}
+
+// The smaller of two counts.
+pub fn least(a: usize, b: usize) -> usize
+    ensures { λ r. ⌜ r ≡ a - (a - b) ⌝ }
+{
+    if b < a { b } else { a }
 }
 
 // A step's number, or refusal 5.
@@ -210,7 +261,7 @@ pub fn number(k: Refusal) -> u8
 
 // The number of a verdict, 0 where it is accepted.
 pub fn verdict_byte(v: Verdict) -> u8
-    ensures { λ r. ⌜ r ≡ numberIn (verdict v) ⌝ }
+    ensures { λ r. ⌜ r ≡ numberIn (paperVerdict v) ⌝ }
 {
     match v {
         Verdict::Accepted => 0,
@@ -227,7 +278,7 @@ pub fn ranged(x: f64, from: f64, to: f64) -> bool
 
 // The checks of a call with one argument.
 pub fn check_only(x: f64, from: f64, to: f64) -> Verdict
-    ensures { λ r. ⌜ verdict r ≡ onlyRule from to x ⌝ }
+    ensures { λ r. ⌜ paperVerdict r ≡ onlyRule from to x ⌝ }
 {
     if is_finite(x) {
         if ranged(x, from, to) {
@@ -240,7 +291,7 @@ pub fn check_only(x: f64, from: f64, to: f64) -> Verdict
 
 // The checks of a call with two arguments, x and y.
 pub fn check_pair(x: f64, x_from: f64, x_to: f64, y: f64, y_from: f64, y_to: f64) -> Verdict
-    ensures { λ r. ⌜ verdict r ≡ pairRule «x_from» «x_to» x «y_from» «y_to» y ⌝ }
+    ensures { λ r. ⌜ paperVerdict r ≡ pairRule «x_from» «x_to» x «y_from» «y_to» y ⌝ }
 {
     if is_finite(x) {
         if is_finite(y) {
@@ -277,31 +328,31 @@ pub fn in_d(d: KgPerM3) -> bool
 
 // The checks of the five pairs.
 pub fn check_Td(t: Kelvin, d: KgPerM3) -> Verdict
-    ensures { λ r. ⌜ verdict r ≡ pairRule T-FROM T-TO (t .0) D-FROM D-TO (d .0) ⌝ }
+    ensures { λ r. ⌜ paperVerdict r ≡ TdBox (t .0) (d .0) ⌝ }
 {
     check_pair(t.0, T_FROM, T_TO, d.0, D_FROM, D_TO)
 }
 
 pub fn check_pT(p: MPa, t: Kelvin) -> Verdict
-    ensures { λ r. ⌜ verdict r ≡ pairRule P-FROM P-TO (p .0) T-FROM T-TO (t .0) ⌝ }
+    ensures { λ r. ⌜ paperVerdict r ≡ pTBox (p .0) (t .0) ⌝ }
 {
     check_pair(p.0, P_FROM, P_TO, t.0, T_FROM, T_TO)
 }
 
 pub fn check_ph(p: MPa, h: KJPerKg) -> Verdict
-    ensures { λ r. ⌜ verdict r ≡ pairRule P-FROM P-TO (p .0) H-FROM H-TO (h .0) ⌝ }
+    ensures { λ r. ⌜ paperVerdict r ≡ phBox (p .0) (h .0) ⌝ }
 {
     check_pair(p.0, P_FROM, P_TO, h.0, H_FROM, H_TO)
 }
 
 pub fn check_ps(p: MPa, s: KJPerKgK) -> Verdict
-    ensures { λ r. ⌜ verdict r ≡ pairRule P-FROM P-TO (p .0) S-FROM S-TO (s .0) ⌝ }
+    ensures { λ r. ⌜ paperVerdict r ≡ psBox (p .0) (s .0) ⌝ }
 {
     check_pair(p.0, P_FROM, P_TO, s.0, S_FROM, S_TO)
 }
 
 pub fn check_hs(h: KJPerKg, s: KJPerKgK) -> Verdict
-    ensures { λ r. ⌜ verdict r ≡ pairRule H-FROM H-TO (h .0) S-FROM S-TO (s .0) ⌝ }
+    ensures { λ r. ⌜ paperVerdict r ≡ hsBox (h .0) (s .0) ⌝ }
 {
     check_pair(h.0, H_FROM, H_TO, s.0, S_FROM, S_TO)
 }

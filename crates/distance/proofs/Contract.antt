@@ -12,11 +12,11 @@ use Rattle.common.specs.Outcome.{Outcome, value, refused}
 use Rattle.common.specs.Answer.{numberOf, paper}
 use Rattle.common.specs.Decimal.{whole}
 use Rattle.common.specs.Constant.{P-FROM}
-use Rattle.error.specs.Fraction.{scaledBy}
-use Rattle.letter.specs.declared.Letter.{Letter}
-use Rattle.letter.specs.declared.Choice.{Choice}
-use Rattle.letter.specs.declared.Choice.the-variants.{Taken, Refused}
-use Rattle.letter.specs.Letter.{chosen}
+use Rattle.rounding.specs.Fraction.{scaledBy}
+use Rattle.subregion.specs.declared.Letter.{Letter}
+use Rattle.subregion.specs.declared.LetterAnswer.{LetterAnswer}
+use Rattle.subregion.specs.declared.LetterAnswer.the-variants.{Value, Refused}
+use Rattle.subregion.specs.Letter.{paperLetter}
 use Rattle.boundary.specs.Boundary.{boundaryRule}
 use Rattle.boundary.specs.declared.Boundary.{Boundary}
 use Rattle.boundary.proofs.T_atRegionBoundary.Kinds as line-kinds
@@ -35,8 +35,8 @@ pub line-reaches : (κs : Lfts 0) (a : Dens κs line-kinds.ps) (e : AtExit (ende
 line-reaches κs a e r post b k held from to =
     subst (Reaches b (scaledBy 48 (a .0 .0))) (sym (post ∙ ap (λ (x : Boundary). boundaryRule x (a .0 .0)) k)) (boundary-distance b (a .0 .0) held from to)
 
-taken : (r : Choice) (l : Letter) → chosen r ≡ value l → r ≡ Taken l
-taken (Taken m) l e = cc
+taken : (r : LetterAnswer) (l : Letter) → paperLetter r ≡ value l → r ≡ Value l
+taken (Value m) l e = cc
 taken (Refused k) l e = absurd (never (numberOf k) l e)
   where
     never : (k : ℕ) (l : Letter) → _≡_ {A = Outcome Letter} (refused k) (value l) → ⊥
@@ -44,5 +44,5 @@ taken (Refused k) l e = absurd (never (numberOf k) l e)
 
 pub sub-region-exact : (κs : Lfts 0) (a : Dens κs choice-kinds.ps) (e : AtExit (endedOf 0 choice-kinds.ps choice-kinds.r) κs) (r : resT choice-kinds.r κs .Denot) → choice.Post κs a r e
     → Inside (a .0 .0) (a .1 .0 .0) → Clear (scaledBy 48 (a .0 .0)) (scaledBy 43 (a .1 .0 .0))
-    → r ≡ Taken (exactLetter (scaledBy 48 (a .0 .0)) (scaledBy 43 (a .1 .0 .0)))
+    → r ≡ Value (exactLetter (scaledBy 48 (a .0 .0)) (scaledBy 43 (a .1 .0 .0)))
 sub-region-exact κs a e r post i k = taken r (exactLetter (scaledBy 48 (a .0 .0)) (scaledBy 43 (a .1 .0 .0))) (post ∙ exact-letter (a .0 .0) (a .1 .0 .0) i k)

@@ -11,9 +11,9 @@ use Rattle.common.specs.Outcome.{check}
 use Rattle.common.specs.Decimal.{whole}
 use Rattle.common.specs.Constant.{P-FROM, P-TO}
 use Rattle.common.specs.Sum.{every}
-use Rattle.error.specs.Fraction.{Near, scaledBy}
-use Rattle.error.proofs.Bound.{float, tight, expression-near}
-use Rattle.error.proofs.Whole.{held-value, finite-value}
+use Rattle.rounding.specs.Fraction.{Near, scaledBy}
+use Rattle.rounding.proofs.Bound.{float, tight, expression-near}
+use Rattle.rounding.proofs.Whole.{held-value, finite-value}
 use Rattle.boundary.specs.Boundary.{Form, formRule, boundaryOf, boundaryRule}
 use Rattle.distance.specs.Exact.{form, Polynomial, cd, ef, gh, ij, jk, mn, qu, rx, uv, Q, temperature}
 use Rattle.distance.specs.Distance.{kind, top, distance, unit, Reaches}

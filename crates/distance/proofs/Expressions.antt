@@ -4,7 +4,7 @@ use mathlib.Core.Path.{_≡_, refl, sym, ap, _∙_, subst}
 use Prim.Native.Nat.{ℕ, suc, _+_, _-_, _*_, _^_, _≤_, _<_}
 use native.Mathlib.Nat.{mul-pos, one-le-pow, zero-lt-suc, add-zero, zero-add}
 use native.Mathlib.Omega.{arith}
-use mathlib.Core.Bool.{Bool, true, false, _&&_}
+use mathlib.Core.Bool.{Bool, true, false, _&&_, cond}
 use mathlib.Core.List.{List, map}
 use lib.IntN.{ℤ, pos, negsuc}
 use lib.Dec.{T, leb, eqb, leb→le, eqb→eq}
@@ -12,17 +12,17 @@ use lib.Pow.{pow-add, pow-pos}
 use lib.Ieee.{Float, binary64, add, sub, mul, neg}
 use lib.Ieee.Fits.{and-l, and-r}
 use lib.Ieee.Positive.{positive}
-use Rattle.common.specs.Outcome.{Outcome, finite, check, then, zeroF, pick}
+use Rattle.common.specs.Outcome.{Outcome, finite, check, then, zeroF}
 use Rattle.common.specs.Decimal.{scaled, decimal, tens, tenths}
 use Rattle.common.specs.Sum.{rawTotal, every}
 use Rattle.common.proofs.Laws.{mul-right, add-left, step}
-use Rattle.error.specs.Fraction.{Fraction, ratio, signed, sumOver}
-use Rattle.error.proofs.Errors.{times}
-use Rattle.error.proofs.Bound.{Ex, con, var, sum, product, float, exact, Same}
-use Rattle.error.proofs.Powers.{power-ex, power-float, power-exact, sum-ex, sum-float, sum-same}
+use Rattle.rounding.specs.Fraction.{Fraction, ratio, signed, sumOver}
+use Rattle.rounding.proofs.Errors.{times}
+use Rattle.rounding.proofs.Bound.{Ex, con, var, sum, product, float, exact, Same}
+use Rattle.rounding.proofs.Powers.{power-ex, power-float, power-exact, sum-ex, sum-float, sum-same}
 use Rattle.boundary.specs.Boundary as f64
 use Rattle.boundary.specs.Boundary.{inP, formOf, rawTerm, formRule, straight3ef}
-use Rattle.boundary.proofs.Boundaries.{small, sum-check}
+use Rattle.boundary.proofs.TableSums.{small, sum-check}
 use Rattle.distance.specs.Exact.{Row, Form, tabled, straight, form, valueOf, Polynomial, cd, ef, gh, ij, jk, mn, qu, rx, uv, Q, lifted, gain, loss, polynomial, line}
 use Rattle.distance.specs.Distance.{kind}
 
@@ -74,7 +74,7 @@ module _ (n t Z L D p q q' Y : ℕ) (e : t * Z ≡ L * D) (g : q' * q ≡ Y) (po
   none' : (0 * p + n * t * 0) * (Z * Y) ≡ 0 * (D * q)
   none' = omega arith
 
-  term-same : (s : Bool) → Same (times (signed s (n * t) D) (ratio p q)) (record { over = pick s 0 (n * L * (p * q')); under = pick s (n * L * (p * q')) 0; scale = Z * Y })
+  term-same : (s : Bool) → Same (times (signed s (n * t) D) (ratio p q)) (record { over = cond s 0 (n * L * (p * q')); under = cond s (n * L * (p * q')) 0; scale = Z * Y })
   term-same false = record { overs = ap (λ (z : ℕ). z * (Z * Y)) (add-zero (n * t * p)) ∙ all; unders = none; positive = positive }
   term-same true = record { overs = none'; unders = ap (λ (z : ℕ). z * (Z * Y)) (zero-add (n * t * p)) ∙ all; positive = positive }
 

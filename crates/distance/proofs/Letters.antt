@@ -5,7 +5,7 @@ use Prim.Native.Nat.{ℕ, _+_, _*_, _^_, _≤_, _<_}
 use native.Mathlib.Nat.{le-trans, mul-one, mul-le-mul-right, zero-lt-suc}
 use native.Mathlib.Omega.{arith}
 use mathlib.Core.List.{List, [], _∷_}
-use mathlib.Core.Bool.{Bool, true, false, not, _&&_}
+use mathlib.Core.Bool.{Bool, true, false, not, _&&_, cond}
 use lib.Dec.{T, leb, ltb, leb→le, nleb→lt, ltb→lt, lt→ltb, lit<, lit≤}
 use lib.Arith.{le→nltb}
 use lib.Pow.{pow-pos}
@@ -14,19 +14,20 @@ use lib.Ieee.Fits.{and-l, and-r}
 use lib.Ieee.Bits.{is-true, is-false}
 use lib.Ieee.Exact.{HasValue}
 use lib.Ieee.Positive.{positive, between, le-trans-positive}
-use Rattle.common.specs.Outcome.{Outcome, value, refused, pick, then}
+use Rattle.common.specs.Outcome.{Outcome, value, refused, then}
 use Rattle.common.specs.Decimal.{whole, decimal, scaled}
 use Rattle.common.specs.Constant.{P-FROM, P-TO, T-FROM, T-TO}
-use Rattle.common.specs.Range.{pairRule}
+use Rattle.common.specs.Range.{pTBox}
 use Rattle.common.specs.Sum.{every}
 use Rattle.common.proofs.Sums.{both-left, both-right}
-use Rattle.error.specs.Fraction.{ratio, atMost, scaledBy}
-use Rattle.error.proofs.Compare.{lt-then-le, le-agrees, lt-values}
-use Rattle.error.proofs.Whole.{whole-from, finite-value}
-use Rattle.letter.specs.declared.Letter.{Letter}
-use Rattle.letter.specs.declared.Letter.the-variants.{G, L}
+use Rattle.rounding.specs.Fraction.{ratio, atMost, scaledBy}
+use Rattle.rounding.proofs.Compare.{lt-then-le, le-agrees, lt-values}
+use Rattle.rounding.proofs.Whole.{whole-from, finite-value}
+use Rattle.subregion.specs.declared.Letter.{Letter}
+use Rattle.subregion.specs.declared.Letter.the-variants.{G, L}
 use Rattle.boundary.specs.Boundary.{boundaryOf}
-use Rattle.boundary.specs.Choice.{Band, cghijk, clhijk, bandOf, chijkRule, inBand, letterAt, letterRule}
+use Rattle.choosers.specs.Choosers.{Band, cghijk, clhijk, bandOf}
+use Rattle.boundary.specs.Choice.{chijkRule, inBand, letterAt, letterRule}
 use Rattle.boundary.proofs.Limit.{limit-is}
 use Rattle.distance.specs.Exact.{Polynomial, temperature, Q}
 use Rattle.distance.specs.Distance.{kind, top, distance, unit, Reaches}
@@ -110,7 +111,7 @@ module _ (p t : Float) (i : Inside p t) where
   whole-t = whole-from 9 43 refl T-FROM t tt positive-t (i .t-f64) tt (i .t-from)
 
   -- ---- the box
-  box : pairRule P-FROM P-TO p T-FROM T-TO t ≡ value tt
+  box : pTBox p t ≡ value tt
   box =
       rw (
         p-finite p (i .p-f64) 25 (zero-lt-suc 24) (lit≤ tt) from-16 (i .p-upto),
@@ -135,10 +136,10 @@ module _ (p t : Float) (i : Inside p t) where
   above-half : lt (decimal 23_5 1) p ≡ not lower
   above-half = lt-values (decimal 23_5 1) p 47 2 P Q (zero-lt-suc 1) (pow-pos 48) half-value whole-p ∙ high-arith P Q
 
-  band : (l : Float) → bandOf l p ≡ pick lower clhijk cghijk
+  band : (l : Float) → bandOf l p ≡ cond lower clhijk cghijk
   band l = rw (not-above 40 (lit≤ tt) (lit≤ tt), not-above 25 (lit≤ tt) (lit≤ tt), above-half, is-true (lt (whole 23) p) (i .p-above)) (go lower)
     where
-      go : (x : Bool) → pick (not x) cghijk clhijk ≡ pick x clhijk cghijk
+      go : (x : Bool) → cond (not x) cghijk clhijk ≡ cond x clhijk cghijk
       go true = refl
       go false = refl
 
@@ -160,11 +161,11 @@ module _ (p t : Float) (i : Inside p t) where
         rw (at-cd .accepted, at-ef .accepted, at-gh .accepted, at-ij .accepted, at-jk .accepted)
         (rw (at-cd .same, at-gh .same, at-ef .same, at-ij .same, at-jk .same))
 
-    in-band : (x : Bool) → inBand (pick x clhijk cghijk) p t ≡ value (lettersWith (pick x L G) P n)
+    in-band : (x : Bool) → inBand (cond x clhijk cghijk) p t ≡ value (lettersWith (cond x L G) P n)
     in-band true = chosen-of L
     in-band false = chosen-of G
 
-    by-pressure : lettersWith (pick lower L G) P n ≡ exactLetter P n
+    by-pressure : lettersWith (cond lower L G) P n ≡ exactLetter P n
     unfolding exactLetter
     by-pressure = refl
 

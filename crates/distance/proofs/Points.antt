@@ -11,9 +11,9 @@ use Rattle.common.specs.Decimal.{decimal, whole, scaled}
 use Rattle.common.specs.Constant.{T-FROM, T-TO}
 use Rattle.common.specs.Sum.{every}
 use Rattle.common.proofs.Sums.{both-left, both-right}
-use Rattle.error.specs.Fraction.{side, scaledBy, sumOver}
-use Rattle.letter.specs.declared.Letter.{Letter}
-use Rattle.letter.specs.declared.Letter.the-variants.{C, G, H, I, J, K, L}
+use Rattle.rounding.specs.Fraction.{side, scaledBy, sumOver}
+use Rattle.subregion.specs.declared.Letter.{Letter}
+use Rattle.subregion.specs.declared.Letter.the-variants.{C, G, H, I, J, K, L}
 use Rattle.distance.specs.Exact.{Polynomial, temperature}
 use Rattle.distance.specs.Letter.{tolerance, kelvin, exactLetter, All, five, Inside, Clear, Off}
 

@@ -12,8 +12,8 @@ use lib.Ieee.Order.{le-of-values}
 use Rattle.common.specs.Outcome.{finite}
 use Rattle.common.specs.Decimal.{scaled, decimal, whole}
 use Rattle.common.specs.Constant.{P-FROM, P-TO}
-use Rattle.error.specs.Fraction.{scaledBy}
-use Rattle.error.proofs.Whole.{whole-from, finite-value}
+use Rattle.rounding.specs.Fraction.{scaledBy}
+use Rattle.rounding.proofs.Whole.{whole-from, finite-value}
 use Rattle.distance.specs.Exact.{Q}
 
 pub whole-value : (n : ℕ) → n ≤ 100 → HasValue (whole n) false n 1

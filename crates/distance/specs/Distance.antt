@@ -2,7 +2,7 @@
 use Prim.Native.Nat.{ℕ, _^_}
 use lib.Ieee.{Float}
 use Rattle.common.specs.Outcome.{Outcome, value, refused}
-use Rattle.error.specs.Fraction.{Near}
+use Rattle.rounding.specs.Fraction.{Near}
 use Rattle.boundary.specs.declared.Boundary.{Boundary}
 use Rattle.boundary.specs.declared.Boundary.the-variants as boundaries
 use Rattle.distance.specs.Exact.{Polynomial, cd, ef, gh, ij, jk, mn, qu, rx, uv, temperature}

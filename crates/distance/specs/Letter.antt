@@ -1,15 +1,15 @@
 -- The letter of 23 < p ≤ 25 by exact arithmetic, and the premises of demand 3: p is P / 2^48 MPa and T is t / 2^43 K, P and t whole.
 -- Assumes nothing: these are definitions.
+use mathlib.Core.Bool.{cond}
 use Prim.Native.Nat.{ℕ, _^_}
 use mathlib.Core.List.{List, [], _∷_}
 use lib.Dec.{T}
 use lib.Ieee.{Float, binary64, fits, le, lt}
-use Rattle.common.specs.Outcome.{pick}
 use Rattle.common.specs.Decimal.{whole}
 use Rattle.common.specs.Constant.{T-FROM, T-TO}
-use Rattle.error.specs.Fraction.{Fraction, ratio, atMost, Apart}
-use Rattle.letter.specs.declared.Letter.{Letter}
-use Rattle.letter.specs.declared.Letter.the-variants.{C, G, H, I, J, K, L}
+use Rattle.rounding.specs.Fraction.{Fraction, ratio, atMost, Apart}
+use Rattle.subregion.specs.declared.Letter.{Letter}
+use Rattle.subregion.specs.declared.Letter.the-variants.{C, G, H, I, J, K, L}
 use Rattle.distance.specs.Exact.{Polynomial, cd, ef, gh, ij, jk, temperature, Q}
 
 -- a fact of each element of a list
@@ -27,17 +27,17 @@ kelvin t = ratio t (2 ^ 43)
 -- S05rev, table 1: c up to 3cd, then up to 3gh the letter `second`, h up to 3ef, i up to 3ij, j up to 3jk, and k
 unfoldable pub lettersWith : Letter → ℕ → ℕ → Letter
 lettersWith second P t =
-    pick (atMost (kelvin t) (temperature cd P)) C
-    (pick (atMost (kelvin t) (temperature gh P)) second
-    (pick (atMost (kelvin t) (temperature ef P)) H
-    (pick (atMost (kelvin t) (temperature ij P)) I
-    (pick (atMost (kelvin t) (temperature jk P)) J
+    cond (atMost (kelvin t) (temperature cd P)) C
+    (cond (atMost (kelvin t) (temperature gh P)) second
+    (cond (atMost (kelvin t) (temperature ef P)) H
+    (cond (atMost (kelvin t) (temperature ij P)) I
+    (cond (atMost (kelvin t) (temperature jk P)) J
     K))))
 
 -- the second letter is l up to 23.5 MPa and g above
 unfoldable pub exactLetter : ℕ → ℕ → Letter
 unfolding lettersWith
-exactLetter P t = lettersWith (pick (atMost (ratio P Q) (ratio 23_5 10)) L G) P t
+exactLetter P t = lettersWith (cond (atMost (ratio P Q) (ratio 23_5 10)) L G) P t
 
 -- two f64s, 23 < p ≤ 25 and 623.15 ≤ t ≤ 863.15
 pub record Inside (p t : Float) : Type 0 where

@@ -1,6 +1,5 @@
 pub mod Steps
-pub mod Pressed
-pub mod Tables
 pub mod Numbers
-pub mod Filled
+pub mod Tables
 pub mod Unique
+pub mod Pins

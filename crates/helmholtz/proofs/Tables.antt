@@ -1,4 +1,5 @@
--- A sum over table 30, worked raw, is the sum of what δ and τ come to. Assumes nothing.
+-- A sum over table 30 at two numbers is the sum of what δ and τ come to: first where one of them is not finite, then for each kind of sum; and
+-- table 30 goes as far as the code says.
 use mathlib.Core.Path.{_≡_, refl, sym, ap}
 use mathlib.Core.List.{List}
 use lib.Dec.{T}
@@ -13,7 +14,9 @@ use Rattle.algo.specs.Table.{Row, derived, sumRule}
 use Rattle.algo.specs.Joint.{shareRule}
 use Rattle.algo.specs.Reach.{covered}
 use Rattle.algo.proofs.Settled.{slope-settled, share-settled}
-use Rattle.helmholtz.specs.Gives.{Gives}
+use Rattle.common.specs.Formula.{Raw}
+use Rattle.helmholtz.specs.Number.{Number}
+use Rattle.helmholtz.proofs.Numbers.{settled-number}
 use Rattle.helmholtz.specs.Table30.{table30}
 use Rattle.helmholtz.specs.Hfe.{slope, share}
 
@@ -39,15 +42,15 @@ settled f x y r lx ly h e =
     (next x _ _ (λ _. next y _ _ (λ _. sym h) (λ l. ap (λ (o : Outcome Float). check (orNan o)) (ly l)))
     (λ l. ap (λ (o : Outcome Float). check (orNan o)) (lx l)))
 
-pub slope-gives : (a b : Order) (x y r : Float) → r ≡ orNan (sumRule (derived a b) x y table30) → Gives (slope a b (check x) (check y)) r
+pub slope-gives : (a b : Order) (x y r : Float) → r ≡ orNan (sumRule (derived a b) x y table30) → Number (slope a b (check x) (check y)) r
 unfolding slope
-slope-gives a b x y r e = record {
+slope-gives a b x y r e = settled-number (slope-settled a b x y table30) e record {
   is = settled (λ u v. sumRule (derived a b) u v table30) x y r (first-lost (derived a b) table30 x y) (second-lost (derived a b) table30 x y) (slope-settled a b x y table30) e;
 }
 
-pub share-gives : (a : Order) (s : Share) (x y r : Float) → r ≡ orNan (shareRule a s x y table30) → Gives (share a s (check x) (check y)) r
+pub share-gives : (a : Order) (s : Share) (x y r : Float) → r ≡ orNan (shareRule a s x y table30) → Number (share a s (check x) (check y)) r
 unfolding share shareRule
-share-gives a s x y r e = record {
+share-gives a s x y r e = settled-number (share-settled a s x y table30) e record {
   is = settled (λ u v. shareRule a s u v table30) x y r
       (λ l. rw (first-lost _ table30 x y l))
       (λ l. rw (second-lost _ table30 x y l))

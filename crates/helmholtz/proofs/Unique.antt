@@ -1,161 +1,54 @@
--- Each public contract admits one answer. The theorems are about the contracts' own readings, `Reads.Post`. Assumes nothing.
-use mathlib.Core.Path.{_≡_, refl, sym, ap, _∙_}
-use Rattle.common.specs.Outcome.{Outcome}
-use Rattle.common.specs.declared.Verdict.{Verdict}
-use Rattle.common.proofs.Same.{One, same-answer, same-verdict}
-use Rattle.helmholtz.specs.declared.Record.{Record}
-use Rattle.helmholtz.specs.declared.RecordAnswer.{RecordAnswer}
-use Rattle.helmholtz.specs.Record.{paperRecord}
-use Rattle.helmholtz.proofs.property.Td2p_reg3.Kinds as Td2p-reg3-kinds
-use Rattle.helmholtz.proofs.property.Td2p_reg3.Reads as Td2p-reg3
-use Rattle.helmholtz.proofs.property.Td2v_reg3.Kinds as Td2v-reg3-kinds
-use Rattle.helmholtz.proofs.property.Td2v_reg3.Reads as Td2v-reg3
-use Rattle.helmholtz.proofs.property.Td2h_reg3.Kinds as Td2h-reg3-kinds
-use Rattle.helmholtz.proofs.property.Td2h_reg3.Reads as Td2h-reg3
-use Rattle.helmholtz.proofs.property.Td2s_reg3.Kinds as Td2s-reg3-kinds
-use Rattle.helmholtz.proofs.property.Td2s_reg3.Reads as Td2s-reg3
-use Rattle.helmholtz.proofs.property.Td2e_reg3.Kinds as Td2e-reg3-kinds
-use Rattle.helmholtz.proofs.property.Td2e_reg3.Reads as Td2e-reg3
-use Rattle.helmholtz.proofs.property.Td2u_reg3.Kinds as Td2u-reg3-kinds
-use Rattle.helmholtz.proofs.property.Td2u_reg3.Reads as Td2u-reg3
-use Rattle.helmholtz.proofs.property.Td2cp_reg3.Kinds as Td2cp-reg3-kinds
-use Rattle.helmholtz.proofs.property.Td2cp_reg3.Reads as Td2cp-reg3
-use Rattle.helmholtz.proofs.property.Td2cv_reg3.Kinds as Td2cv-reg3-kinds
-use Rattle.helmholtz.proofs.property.Td2cv_reg3.Reads as Td2cv-reg3
-use Rattle.helmholtz.proofs.property.Td2w_reg3.Kinds as Td2w-reg3-kinds
-use Rattle.helmholtz.proofs.property.Td2w_reg3.Reads as Td2w-reg3
-use Rattle.helmholtz.proofs.property.Td2ks_reg3.Kinds as Td2ks-reg3-kinds
-use Rattle.helmholtz.proofs.property.Td2ks_reg3.Reads as Td2ks-reg3
-use Rattle.helmholtz.proofs.property.Td2f_reg3.Kinds as Td2f-reg3-kinds
-use Rattle.helmholtz.proofs.property.Td2f_reg3.Reads as Td2f-reg3
-use Rattle.helmholtz.proofs.property.Td2g_reg3.Kinds as Td2g-reg3-kinds
-use Rattle.helmholtz.proofs.property.Td2g_reg3.Reads as Td2g-reg3
-use Rattle.helmholtz.proofs.property.Td2z_reg3.Kinds as Td2z-reg3-kinds
-use Rattle.helmholtz.proofs.property.Td2z_reg3.Reads as Td2z-reg3
-use Rattle.helmholtz.proofs.property.Td2ec_reg3.Kinds as Td2ec-reg3-kinds
-use Rattle.helmholtz.proofs.property.Td2ec_reg3.Reads as Td2ec-reg3
-use Rattle.helmholtz.proofs.property.Td2kt_reg3.Kinds as Td2kt-reg3-kinds
-use Rattle.helmholtz.proofs.property.Td2kt_reg3.Reads as Td2kt-reg3
-use Rattle.helmholtz.proofs.property.Td2dvdtcp_reg3.Kinds as Td2dvdtcp-reg3-kinds
-use Rattle.helmholtz.proofs.property.Td2dvdtcp_reg3.Reads as Td2dvdtcp-reg3
-use Rattle.helmholtz.proofs.property.Td2dvdpct_reg3.Kinds as Td2dvdpct-reg3-kinds
-use Rattle.helmholtz.proofs.property.Td2dvdpct_reg3.Reads as Td2dvdpct-reg3
-use Rattle.helmholtz.proofs.property.Td2dpdtcv_reg3.Kinds as Td2dpdtcv-reg3-kinds
-use Rattle.helmholtz.proofs.property.Td2dpdtcv_reg3.Reads as Td2dpdtcv-reg3
-use Rattle.helmholtz.proofs.property.Td2iJTC_reg3.Kinds as Td2iJTC-reg3-kinds
-use Rattle.helmholtz.proofs.property.Td2iJTC_reg3.Reads as Td2iJTC-reg3
-use Rattle.helmholtz.proofs.property.Td2joule_reg3.Kinds as Td2joule-reg3-kinds
-use Rattle.helmholtz.proofs.property.Td2joule_reg3.Reads as Td2joule-reg3
-use Rattle.helmholtz.proofs.property.Td2pc_reg3.Kinds as Td2pc-reg3-kinds
-use Rattle.helmholtz.proofs.property.Td2pc_reg3.Reads as Td2pc-reg3
-use Rattle.helmholtz.proofs.property.Td2batap_reg3.Kinds as Td2batap-reg3-kinds
-use Rattle.helmholtz.proofs.property.Td2batap_reg3.Reads as Td2batap-reg3
-use Rattle.helmholtz.proofs.property.Td2fi_reg3.Kinds as Td2fi-reg3-kinds
-use Rattle.helmholtz.proofs.property.Td2fi_reg3.Reads as Td2fi-reg3
-use Rattle.helmholtz.proofs.property.Td2fu_reg3.Kinds as Td2fu-reg3-kinds
-use Rattle.helmholtz.proofs.property.Td2fu_reg3.Reads as Td2fu-reg3
-use Rattle.helmholtz.proofs.property.Td2alfap_reg3.Kinds as Td2alfap-reg3-kinds
-use Rattle.helmholtz.proofs.property.Td2alfap_reg3.Reads as Td2alfap-reg3
-use Rattle.helmholtz.proofs.property.Td_thermal_reg3.Kinds as Td-thermal-reg3-kinds
-use Rattle.helmholtz.proofs.property.Td_thermal_reg3.Reads as Td-thermal-reg3
-use Rattle.helmholtz.proofs.records.refuse.Kinds as refuse-kinds
-use Rattle.helmholtz.proofs.records.refuse.Reads as refuse
-use Rattle.helmholtz.proofs.records.fill.Kinds as fill-kinds
-use Rattle.helmholtz.proofs.records.fill.Reads as fill
-use Rattle.helmholtz.proofs.records.Td_reg3.Kinds as Td-reg3-kinds
-use Rattle.helmholtz.proofs.records.Td_reg3.Reads as Td-reg3
+-- Each contract admits one answer. The theorems are about the contracts' own readings, `Reads.Post`, and not about a copy of them.
+use mathlib.Core.Path.{sym, _∙_}
+use Rattle.common.proofs.Same.{One}
+use Rattle.helmholtz.proofs.Numbers.{one-number}
+use Rattle.helmholtz.proofs.region3_hfe.finite_or_nan.Kinds as finite-or-nan-kinds
+use Rattle.helmholtz.proofs.region3_hfe.finite_or_nan.Reads as finite-or-nan
+use Rattle.helmholtz.proofs.region3_hfe.phi_reg3.Kinds as phi-reg3-kinds
+use Rattle.helmholtz.proofs.region3_hfe.phi_reg3.Reads as phi-reg3
+use Rattle.helmholtz.proofs.region3_hfe.phi_delta_reg3.Kinds as phi-delta-reg3-kinds
+use Rattle.helmholtz.proofs.region3_hfe.phi_delta_reg3.Reads as phi-delta-reg3
+use Rattle.helmholtz.proofs.region3_hfe.phi_deltadelta_reg3.Kinds as phi-deltadelta-reg3-kinds
+use Rattle.helmholtz.proofs.region3_hfe.phi_deltadelta_reg3.Reads as phi-deltadelta-reg3
+use Rattle.helmholtz.proofs.region3_hfe.phi_tau_reg3.Kinds as phi-tau-reg3-kinds
+use Rattle.helmholtz.proofs.region3_hfe.phi_tau_reg3.Reads as phi-tau-reg3
+use Rattle.helmholtz.proofs.region3_hfe.phi_tautau_reg3.Kinds as phi-tautau-reg3-kinds
+use Rattle.helmholtz.proofs.region3_hfe.phi_tautau_reg3.Reads as phi-tautau-reg3
+use Rattle.helmholtz.proofs.region3_hfe.phi_deltatau_reg3.Kinds as phi-deltatau-reg3-kinds
+use Rattle.helmholtz.proofs.region3_hfe.phi_deltatau_reg3.Reads as phi-deltatau-reg3
+use Rattle.helmholtz.proofs.region3_hfe.polys_0_j_powi_reg3.Kinds as polys-0-j-powi-reg3-kinds
+use Rattle.helmholtz.proofs.region3_hfe.polys_0_j_powi_reg3.Reads as polys-0-j-powi-reg3
+use Rattle.helmholtz.proofs.region3_hfe.polys_i_j_powi_reg3.Kinds as polys-i-j-powi-reg3-kinds
+use Rattle.helmholtz.proofs.region3_hfe.polys_i_j_powi_reg3.Reads as polys-i-j-powi-reg3
+use Rattle.helmholtz.proofs.region3_hfe.polys_i_ii_ij_jj_powi_reg3.Kinds as polys-i-ii-ij-jj-powi-reg3-kinds
+use Rattle.helmholtz.proofs.region3_hfe.polys_i_ii_ij_jj_powi_reg3.Reads as polys-i-ii-ij-jj-powi-reg3
 
--- an answer is determined by its verdict's number and its record
-pub same-record : (o : Outcome Unit × Record) (x y : RecordAnswer) → paperRecord x ≡ o → paperRecord y ≡ o → x ≡ y
-same-record o x y p q =
-    let e : paperRecord x ≡ paperRecord y = p ∙ sym q in
-    let v = same-verdict _ (x .verdict) (y .verdict) (ap (λ (a : Outcome Unit × Record). a .0) e) refl in
-    ap (λ (v : Verdict). record { verdict = v; «record» = x .«record» }) v
-    ∙ ap (λ (a : Outcome Unit × Record). record { verdict = y .verdict; «record» = a .1 }) e
+pub finite-or-nan-one : One 0 finite-or-nan-kinds.ps finite-or-nan-kinds.r finite-or-nan.Post
+finite-or-nan-one κs a e x y p q = p ∙ sym q
 
-pub Td2p-reg3-one : One 0 Td2p-reg3-kinds.ps Td2p-reg3-kinds.r Td2p-reg3.Post
-Td2p-reg3-one κs a e x y p q = same-answer _ x y p q
+pub phi-reg3-one : One 0 phi-reg3-kinds.ps phi-reg3-kinds.r phi-reg3.Post
+phi-reg3-one κs a e x y p q = one-number p q
 
-pub Td2v-reg3-one : One 0 Td2v-reg3-kinds.ps Td2v-reg3-kinds.r Td2v-reg3.Post
-Td2v-reg3-one κs a e x y p q = same-answer _ x y p q
+pub phi-delta-reg3-one : One 0 phi-delta-reg3-kinds.ps phi-delta-reg3-kinds.r phi-delta-reg3.Post
+phi-delta-reg3-one κs a e x y p q = one-number p q
 
-pub Td2h-reg3-one : One 0 Td2h-reg3-kinds.ps Td2h-reg3-kinds.r Td2h-reg3.Post
-Td2h-reg3-one κs a e x y p q = same-answer _ x y p q
+pub phi-deltadelta-reg3-one : One 0 phi-deltadelta-reg3-kinds.ps phi-deltadelta-reg3-kinds.r phi-deltadelta-reg3.Post
+phi-deltadelta-reg3-one κs a e x y p q = one-number p q
 
-pub Td2s-reg3-one : One 0 Td2s-reg3-kinds.ps Td2s-reg3-kinds.r Td2s-reg3.Post
-Td2s-reg3-one κs a e x y p q = same-answer _ x y p q
+pub phi-tau-reg3-one : One 0 phi-tau-reg3-kinds.ps phi-tau-reg3-kinds.r phi-tau-reg3.Post
+phi-tau-reg3-one κs a e x y p q = one-number p q
 
-pub Td2e-reg3-one : One 0 Td2e-reg3-kinds.ps Td2e-reg3-kinds.r Td2e-reg3.Post
-Td2e-reg3-one κs a e x y p q = same-answer _ x y p q
+pub phi-tautau-reg3-one : One 0 phi-tautau-reg3-kinds.ps phi-tautau-reg3-kinds.r phi-tautau-reg3.Post
+phi-tautau-reg3-one κs a e x y p q = one-number p q
 
-pub Td2u-reg3-one : One 0 Td2u-reg3-kinds.ps Td2u-reg3-kinds.r Td2u-reg3.Post
-Td2u-reg3-one κs a e x y p q = same-answer _ x y p q
+pub phi-deltatau-reg3-one : One 0 phi-deltatau-reg3-kinds.ps phi-deltatau-reg3-kinds.r phi-deltatau-reg3.Post
+phi-deltatau-reg3-one κs a e x y p q = one-number p q
 
-pub Td2cp-reg3-one : One 0 Td2cp-reg3-kinds.ps Td2cp-reg3-kinds.r Td2cp-reg3.Post
-Td2cp-reg3-one κs a e x y p q = same-answer _ x y p q
+pub polys-0-j-powi-reg3-one : One 0 polys-0-j-powi-reg3-kinds.ps polys-0-j-powi-reg3-kinds.r polys-0-j-powi-reg3.Post
+polys-0-j-powi-reg3-one κs a e x y p q = rw (p .0 .is, p .1 .is, q .0 .is, q .1 .is)
 
-pub Td2cv-reg3-one : One 0 Td2cv-reg3-kinds.ps Td2cv-reg3-kinds.r Td2cv-reg3.Post
-Td2cv-reg3-one κs a e x y p q = same-answer _ x y p q
+pub polys-i-j-powi-reg3-one : One 0 polys-i-j-powi-reg3-kinds.ps polys-i-j-powi-reg3-kinds.r polys-i-j-powi-reg3.Post
+polys-i-j-powi-reg3-one κs a e x y p q = rw (p .0 .is, p .1 .is, q .0 .is, q .1 .is)
 
-pub Td2w-reg3-one : One 0 Td2w-reg3-kinds.ps Td2w-reg3-kinds.r Td2w-reg3.Post
-Td2w-reg3-one κs a e x y p q = same-answer _ x y p q
-
-pub Td2ks-reg3-one : One 0 Td2ks-reg3-kinds.ps Td2ks-reg3-kinds.r Td2ks-reg3.Post
-Td2ks-reg3-one κs a e x y p q = same-answer _ x y p q
-
-pub Td2f-reg3-one : One 0 Td2f-reg3-kinds.ps Td2f-reg3-kinds.r Td2f-reg3.Post
-Td2f-reg3-one κs a e x y p q = same-answer _ x y p q
-
-pub Td2g-reg3-one : One 0 Td2g-reg3-kinds.ps Td2g-reg3-kinds.r Td2g-reg3.Post
-Td2g-reg3-one κs a e x y p q = same-answer _ x y p q
-
-pub Td2z-reg3-one : One 0 Td2z-reg3-kinds.ps Td2z-reg3-kinds.r Td2z-reg3.Post
-Td2z-reg3-one κs a e x y p q = same-answer _ x y p q
-
-pub Td2ec-reg3-one : One 0 Td2ec-reg3-kinds.ps Td2ec-reg3-kinds.r Td2ec-reg3.Post
-Td2ec-reg3-one κs a e x y p q = same-answer _ x y p q
-
-pub Td2kt-reg3-one : One 0 Td2kt-reg3-kinds.ps Td2kt-reg3-kinds.r Td2kt-reg3.Post
-Td2kt-reg3-one κs a e x y p q = same-answer _ x y p q
-
-pub Td2dvdtcp-reg3-one : One 0 Td2dvdtcp-reg3-kinds.ps Td2dvdtcp-reg3-kinds.r Td2dvdtcp-reg3.Post
-Td2dvdtcp-reg3-one κs a e x y p q = same-answer _ x y p q
-
-pub Td2dvdpct-reg3-one : One 0 Td2dvdpct-reg3-kinds.ps Td2dvdpct-reg3-kinds.r Td2dvdpct-reg3.Post
-Td2dvdpct-reg3-one κs a e x y p q = same-answer _ x y p q
-
-pub Td2dpdtcv-reg3-one : One 0 Td2dpdtcv-reg3-kinds.ps Td2dpdtcv-reg3-kinds.r Td2dpdtcv-reg3.Post
-Td2dpdtcv-reg3-one κs a e x y p q = same-answer _ x y p q
-
-pub Td2iJTC-reg3-one : One 0 Td2iJTC-reg3-kinds.ps Td2iJTC-reg3-kinds.r Td2iJTC-reg3.Post
-Td2iJTC-reg3-one κs a e x y p q = same-answer _ x y p q
-
-pub Td2joule-reg3-one : One 0 Td2joule-reg3-kinds.ps Td2joule-reg3-kinds.r Td2joule-reg3.Post
-Td2joule-reg3-one κs a e x y p q = same-answer _ x y p q
-
-pub Td2pc-reg3-one : One 0 Td2pc-reg3-kinds.ps Td2pc-reg3-kinds.r Td2pc-reg3.Post
-Td2pc-reg3-one κs a e x y p q = same-answer _ x y p q
-
-pub Td2batap-reg3-one : One 0 Td2batap-reg3-kinds.ps Td2batap-reg3-kinds.r Td2batap-reg3.Post
-Td2batap-reg3-one κs a e x y p q = same-answer _ x y p q
-
-pub Td2fi-reg3-one : One 0 Td2fi-reg3-kinds.ps Td2fi-reg3-kinds.r Td2fi-reg3.Post
-Td2fi-reg3-one κs a e x y p q = same-answer _ x y p q
-
-pub Td2fu-reg3-one : One 0 Td2fu-reg3-kinds.ps Td2fu-reg3-kinds.r Td2fu-reg3.Post
-Td2fu-reg3-one κs a e x y p q = same-answer _ x y p q
-
-pub Td2alfap-reg3-one : One 0 Td2alfap-reg3-kinds.ps Td2alfap-reg3-kinds.r Td2alfap-reg3.Post
-Td2alfap-reg3-one κs a e x y p q = same-answer _ x y p q
-
-pub Td-thermal-reg3-one : One 0 Td-thermal-reg3-kinds.ps Td-thermal-reg3-kinds.r Td-thermal-reg3.Post
-Td-thermal-reg3-one κs a e x y p q = same-answer _ x y p q
-
-pub refuse-one : One 0 refuse-kinds.ps refuse-kinds.r refuse.Post
-refuse-one κs a e x y p q = same-record _ x y p q
-
-pub fill-one : One 0 fill-kinds.ps fill-kinds.r fill.Post
-fill-one κs a e x y p q = same-record _ x y p q
-
-pub Td-reg3-one : One 0 Td-reg3-kinds.ps Td-reg3-kinds.r Td-reg3.Post
-Td-reg3-one κs a e x y p q = same-record _ x y p q
+pub polys-i-ii-ij-jj-powi-reg3-one : One 0 polys-i-ii-ij-jj-powi-reg3-kinds.ps polys-i-ii-ij-jj-powi-reg3-kinds.r polys-i-ii-ij-jj-powi-reg3.Post
+polys-i-ii-ij-jj-powi-reg3-one κs a e x y p q = rw (p .0 .is, p .1 .is, p .2 .is, p .3 .is, q .0 .is, q .1 .is, q .2 .is, q .3 .is)

@@ -1,8 +1,9 @@
 -- The dimensionless Helmholtz free energy φ of region 3 and its derivatives: R7-97(2012), equation 28 and table 32, in the order of operations of
 -- r3/region3_hfe.rs. Every refusal here is 5, so it does not matter which operand is worked first. Assumes nothing: these are definitions.
+use Rattle.common.specs.Formula.{_⊕_, _⊗_, _⊘_, minusOf}
 use lib.Ieee.{Float}
 use Rattle.common.specs.Outcome.{Outcome, value, then}
-use Rattle.rules.specs.Formula.{_⊕_, _⊗_, _⊘_, minusOf, logarithmOf}
+use Rattle.rules.specs.Formula.{logarithmOf}
 use Rattle.algo.specs.declared.Order.{Order}
 use Rattle.algo.specs.declared.Order.the-variants.{Zero, One, Two}
 use Rattle.algo.specs.declared.Share.{Share}

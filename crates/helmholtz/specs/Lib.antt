@@ -1,7 +1,3 @@
-pub mod Gives
+pub mod Number
 pub mod Table30
 pub mod Hfe
-pub mod Td
-pub mod Ext
-pub mod Property
-pub mod Record

@@ -1,17 +1,20 @@
-// φ and its derivatives: R7-97(2012), equation 28 and table 32, by the sums over table 30.
-// A number that is lost travels as itself; each divisor is tested before it could hide one.
+// φ and its derivatives: R7-97(2012), equation 28 and table 32, by the sums over table 30. Here, in order: table 30, its three kinds of sums,
+// φ and each derivative by itself, and those that the properties need together by one joint sum. Each gives its number, or a NaN where any step
+// is not finite; each divisor is tested before it could hide such a step.
 use algo::Four;
 use algo::Order;
 use algo::Pair;
 use algo::Reach;
 use algo::Share;
-use algo::const_four;
-use algo::const_pair;
-use algo::const_slope;
-use rules::over;
+use algo::unchecked_four;
+use algo::unchecked_pair;
+use algo::unchecked_sum;
+use common::is_finite;
+use common::over;
 use rules::raw_logarithm;
-ghost use Rattle.common.specs.Outcome.{check};
-ghost use Rattle.helmholtz.specs.Gives.{Gives};
+ghost use mathlib.Core.Path.{_≡_};
+ghost use Rattle.common.specs.Outcome.{check, orNan};
+ghost use Rattle.helmholtz.specs.Number.{Number};
 ghost use Rattle.helmholtz.specs.Hfe.{slope, share, phi, phi-delta, phi-deltadelta, phi-tau, phi-tautau, phi-deltatau, joint-phi, joint-tau, joint-delta, four-delta, four-deltadelta, four-deltatau, four-tautau};
 
 // Table 30, row 1, and rows 2 to 40 by column.
@@ -153,58 +156,68 @@ const REACH: Reach = Reach {
 
 // A sum by itself, its terms derived so often by δ and by τ.
 fn sum(a: Order, b: Order, delta: f64, tau: f64) -> f64
-    ensures { λ r. ⌜ Gives (slope a b (check delta) (check tau)) r ⌝ }
+    ensures { λ r. ⌜ Number (slope a b (check delta) (check tau)) r ⌝ }
 {
-    const_slope(a, b, delta, tau, REACH, &IS, &JS, &NS)
+    unchecked_sum(a, b, delta, tau, REACH, &IS, &JS, &NS)
 }
 
 // Two sums that share their terms, these derived so often by δ.
 fn pair(a: Order, s: Share, t: Share, delta: f64, tau: f64) -> Pair
-    ensures { λ r. ⌜ Gives (share a s (check delta) (check tau)) (r .first) × Gives (share a t (check delta) (check tau)) (r .second) ⌝ }
+    ensures { λ r. ⌜ Number (share a s (check delta) (check tau)) (r .first) × Number (share a t (check delta) (check tau)) (r .second) ⌝ }
 {
-    const_pair(a, s, t, delta, tau, REACH, &IS, &JS, &NS)
+    unchecked_pair(a, s, t, delta, tau, REACH, &IS, &JS, &NS)
 }
 
 // Four sums that share their terms.
 fn four(delta: f64, tau: f64) -> Four
-    ensures { λ r. ⌜ Gives (share Order.Zero Share.I (check delta) (check tau)) (r .i) × Gives (share Order.Zero Share.Ii (check delta) (check tau)) (r .ii)
-        × Gives (share Order.Zero Share.Ij (check delta) (check tau)) (r .ij) × Gives (share Order.Zero Share.Jj (check delta) (check tau)) (r .jj) ⌝ }
+    ensures { λ r. ⌜ Number (share Order.Zero Share.I (check delta) (check tau)) (r .i) × Number (share Order.Zero Share.Ii (check delta) (check tau)) (r .ii)
+        × Number (share Order.Zero Share.Ij (check delta) (check tau)) (r .ij) × Number (share Order.Zero Share.Jj (check delta) (check tau)) (r .jj) ⌝ }
 {
-    const_four(delta, tau, REACH, &IS, &JS, &NS)
+    unchecked_four(delta, tau, REACH, &IS, &JS, &NS)
+}
+
+// x, or a NaN where it is not finite.
+pub fn finite_or_nan(x: f64) -> f64
+    ensures { λ r. ⌜ r ≡ orNan (check x) ⌝ }
+{
+    if is_finite(x) {
+        return x;
+    }
+    0.0 / 0.0
 }
 
 pub fn phi_reg3(delta: f64, tau: f64) -> f64
-    ensures { λ r. ⌜ Gives (phi (check delta) (check tau)) r ⌝ }
+    ensures { λ r. ⌜ Number (phi (check delta) (check tau)) r ⌝ }
 {
-    N1 * raw_logarithm(delta) + sum(Order::Zero, Order::Zero, delta, tau)
+    finite_or_nan(N1 * raw_logarithm(delta) + sum(Order::Zero, Order::Zero, delta, tau))
 }
 
 pub fn phi_delta_reg3(delta: f64, tau: f64) -> f64
-    ensures { λ r. ⌜ Gives (phi-delta (check delta) (check tau)) r ⌝ }
+    ensures { λ r. ⌜ Number (phi-delta (check delta) (check tau)) r ⌝ }
 {
-    over(N1, delta) + sum(Order::One, Order::Zero, delta, tau)
+    finite_or_nan(over(N1, delta) + sum(Order::One, Order::Zero, delta, tau))
 }
 
 pub fn phi_deltadelta_reg3(delta: f64, tau: f64) -> f64
-    ensures { λ r. ⌜ Gives (phi-deltadelta (check delta) (check tau)) r ⌝ }
+    ensures { λ r. ⌜ Number (phi-deltadelta (check delta) (check tau)) r ⌝ }
 {
-    over(over(-N1, delta), delta) + sum(Order::Two, Order::Zero, delta, tau)
+    finite_or_nan(over(over(-N1, delta), delta) + sum(Order::Two, Order::Zero, delta, tau))
 }
 
 pub fn phi_tau_reg3(delta: f64, tau: f64) -> f64
-    ensures { λ r. ⌜ Gives (phi-tau (check delta) (check tau)) r ⌝ }
+    ensures { λ r. ⌜ Number (phi-tau (check delta) (check tau)) r ⌝ }
 {
     sum(Order::Zero, Order::One, delta, tau)
 }
 
 pub fn phi_tautau_reg3(delta: f64, tau: f64) -> f64
-    ensures { λ r. ⌜ Gives (phi-tautau (check delta) (check tau)) r ⌝ }
+    ensures { λ r. ⌜ Number (phi-tautau (check delta) (check tau)) r ⌝ }
 {
     sum(Order::Zero, Order::Two, delta, tau)
 }
 
 pub fn phi_deltatau_reg3(delta: f64, tau: f64) -> f64
-    ensures { λ r. ⌜ Gives (phi-deltatau (check delta) (check tau)) r ⌝ }
+    ensures { λ r. ⌜ Number (phi-deltatau (check delta) (check tau)) r ⌝ }
 {
     sum(Order::One, Order::One, delta, tau)
 }
@@ -216,11 +229,11 @@ pub struct PhiTau {
 }
 
 pub fn polys_0_j_powi_reg3(delta: f64, tau: f64) -> PhiTau
-    ensures { λ r. ⌜ Gives (joint-phi (check delta) (check tau)) (r .phi) × Gives (joint-tau (check delta) (check tau)) (r .tau) ⌝ }
+    ensures { λ r. ⌜ Number (joint-phi (check delta) (check tau)) (r .phi) × Number (joint-tau (check delta) (check tau)) (r .tau) ⌝ }
 {
     let joint = pair(Order::Zero, Share::Whole, Share::J, delta, tau);
     PhiTau {
-        phi: joint.first + N1 * raw_logarithm(delta),
+        phi: finite_or_nan(joint.first + N1 * raw_logarithm(delta)),
         tau: joint.second,
     }
 }
@@ -232,11 +245,11 @@ pub struct DeltaTau {
 }
 
 pub fn polys_i_j_powi_reg3(delta: f64, tau: f64) -> DeltaTau
-    ensures { λ r. ⌜ Gives (joint-delta (check delta) (check tau)) (r .delta) × Gives (joint-tau (check delta) (check tau)) (r .tau) ⌝ }
+    ensures { λ r. ⌜ Number (joint-delta (check delta) (check tau)) (r .delta) × Number (joint-tau (check delta) (check tau)) (r .tau) ⌝ }
 {
     let joint = pair(Order::Zero, Share::I, Share::J, delta, tau);
     DeltaTau {
-        delta: joint.first + over(N1, delta),
+        delta: finite_or_nan(joint.first + over(N1, delta)),
         tau: joint.second,
     }
 }
@@ -250,13 +263,13 @@ pub struct Slopes {
 }
 
 pub fn polys_i_ii_ij_jj_powi_reg3(delta: f64, tau: f64) -> Slopes
-    ensures { λ r. ⌜ Gives (four-delta (check delta) (check tau)) (r .delta) × Gives (four-deltadelta (check delta) (check tau)) (r .deltadelta)
-        × Gives (four-deltatau (check delta) (check tau)) (r .deltatau) × Gives (four-tautau (check delta) (check tau)) (r .tautau) ⌝ }
+    ensures { λ r. ⌜ Number (four-delta (check delta) (check tau)) (r .delta) × Number (four-deltadelta (check delta) (check tau)) (r .deltadelta)
+        × Number (four-deltatau (check delta) (check tau)) (r .deltatau) × Number (four-tautau (check delta) (check tau)) (r .tautau) ⌝ }
 {
     let joint = four(delta, tau);
     Slopes {
-        delta: over(N1, delta) + joint.i,
-        deltadelta: over(over(-N1, delta), delta) + joint.ii,
+        delta: finite_or_nan(over(N1, delta) + joint.i),
+        deltadelta: finite_or_nan(over(over(-N1, delta), delta) + joint.ii),
         deltatau: joint.ij,
         tautau: joint.jj,
     }

@@ -2,19 +2,14 @@
 use buffer::byte_at;
 use buffer::float_at;
 use buffer::int_at;
-use report::more;
-use report::say;
-use report::say_number;
-
-fn number_of(numbers: [f64; 10], which: u8) -> f64 {
-    let k = which as usize;
-    if k < 10 { numbers[k] } else { 0.0 }
-}
+use tally::more;
+use tally::say;
+use tally::say_number;
 
 // A point: a row, which of the reply's numbers is meant, and the ends of what rounds to the printed digits. Answers whether it holds.
 fn holds(point: &[u8]) -> bool {
-    let r = reply::answer(
-        byte_at(point, 0),
+    let r = entries::answer(
+        entries::entry_of(byte_at(point, 0)),
         int_at(point, 4),
         float_at(point, 8),
         float_at(point, 16),
@@ -26,7 +21,7 @@ fn holds(point: &[u8]) -> bool {
         return false;
     }
     if common::ranged(
-        number_of(numbers, byte_at(point, 24)),
+        entries::number_at(numbers, byte_at(point, 24)),
         float_at(point, 32),
         float_at(point, 40),
     ) {
@@ -62,6 +57,6 @@ fn lines(page: &[u8]) {
 
 fn main() {
     let mut page = io::large_buffer();
-    let have = report::load(b"points.bin", &mut page);
+    let have = tally::load(b"points.bin", &mut page);
     lines(&page[..have]);
 }

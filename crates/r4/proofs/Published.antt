@@ -7,10 +7,10 @@ use Prim.Native.Nat.{ℕ, _+_, _*_, _^_}
 use lib.Dec.{leb}
 use lib.Ieee.{Float, nan, inf, fin, up, down, round, neg, add, sub, sum, mul, div}
 use Rattle.common.specs.Outcome.{Outcome, value, refused}
-use Rattle.common.specs.Decimal.{scaled, decimal, whole}
+use Rattle.common.specs.Decimal.{scaled, decimal, whole, plus, minus}
 use Rattle.common.specs.Sum.{every}
 use Rattle.rules.specs.Units.{inUnits}
-use Rattle.rules.specs.Power.{powerRule, rungsC}
+use Rattle.rules.specs.Power.{powerRule}
 use Rattle.rules.specs.Root.{rootRule, nearestRoot, wholeRoot}
 use Rattle.r4.specs.Saturation.{p-saturation, T-saturation}
 
@@ -41,5 +41,5 @@ values =
     ∷ []
 
 pub values-agree : every agrees values ≡ true
-unfolding values every p-saturation T-saturation powerRule rungsC rootRule nearestRoot wholeRoot inUnits scaled decimal whole round neg add sub sum mul div
+unfolding values every p-saturation T-saturation powerRule rootRule nearestRoot wholeRoot inUnits plus minus scaled decimal whole round neg add sub sum mul div
 values-agree = refl

@@ -15,4 +15,4 @@ pub T-saturation-one : One 0 T-kinds.ps T-kinds.r T.Post
 T-saturation-one κs a e x y p q = same-answer _ x y p q
 
 pub raw-T-saturation-one : One 0 raw-kinds.ps raw-kinds.r raw.Post
-raw-T-saturation-one κs a e x y p q = p .0 ∙ sym (q .0)
+raw-T-saturation-one κs a e x y p q = p ∙ sym q

@@ -1,51 +1,44 @@
--- The saturation line: R7-97, equations 30 and 31 with the coefficients of table 34, in the Rust's order of operations (r4/region4_sat_pT.rs).
+-- To believe: the saturation line, R7-97, equations 30 and 31 with the coefficients of table 34, in the Rust's order of operations (r4/region4_sat_pT.rs).
 -- Assumes nothing: these are definitions.
+use Rattle.common.specs.Formula.{_⊕_, _⊖_, _⊗_, _⊘_, minusOf}
 use Prim.Native.Nat.{ℕ}
-use mathlib.Core.Bool.{true, false}
-use lib.IntN.{ℤ, pos}
+use lib.IntN.{pos}
 use lib.Ieee.{Float}
 use Rattle.common.specs.Outcome.{Outcome, value, then}
-use Rattle.common.specs.Decimal.{scaled, decimal, whole}
-use Rattle.common.specs.Constant.{P-FROM, T-FROM, P-MAX4, T-MAX4}
-use Rattle.common.specs.Range.{onlyRule}
-use Rattle.rules.specs.Formula.{_⊕_, _⊖_, _⊗_, _⊘_, minusOf, rootOf, powerOf}
+use Rattle.common.specs.Decimal.{plus, minus, decimal, whole}
+use Rattle.common.specs.Range.{saturatedPBox, saturatedTBox}
+use Rattle.rules.specs.Formula.{rootOf, powerOf}
 
--- Table 34 prints 0.digits * 10^e with 14 digits.
-abbrev over : ℕ → ℤ → Outcome Float
-over digits e = value (scaled false digits 14 e)
-
-abbrev under : ℕ → ℤ → Outcome Float
-under digits e = value (scaled true digits 14 e)
-
+-- table 34
 abbrev pub n1 : Outcome Float
-n1 = over 0_11670521452767 (pos 4)
+n1 = value (plus 14 0_11670521452767 (pos 4))
 
 abbrev pub n2 : Outcome Float
-n2 = under 0_72421316703206 (pos 6)
+n2 = value (minus 14 0_72421316703206 (pos 6))
 
 abbrev pub n3 : Outcome Float
-n3 = under 0_17073846940092 (pos 2)
+n3 = value (minus 14 0_17073846940092 (pos 2))
 
 abbrev pub n4 : Outcome Float
-n4 = over 0_12020824702470 (pos 5)
+n4 = value (plus 14 0_12020824702470 (pos 5))
 
 abbrev pub n5 : Outcome Float
-n5 = under 0_32325550322333 (pos 7)
+n5 = value (minus 14 0_32325550322333 (pos 7))
 
 abbrev pub n6 : Outcome Float
-n6 = over 0_14915108613530 (pos 2)
+n6 = value (plus 14 0_14915108613530 (pos 2))
 
 abbrev pub n7 : Outcome Float
-n7 = under 0_48232657361591 (pos 4)
+n7 = value (minus 14 0_48232657361591 (pos 4))
 
 abbrev pub n8 : Outcome Float
-n8 = over 0_40511340542057 (pos 6)
+n8 = value (plus 14 0_40511340542057 (pos 6))
 
 abbrev pub n9 : Outcome Float
-n9 = under 0_23855557567849 (pos 0)
+n9 = value (minus 14 0_23855557567849 (pos 0))
 
 abbrev pub n10 : Outcome Float
-n10 = over 0_65017534844798 (pos 3)
+n10 = value (plus 14 0_65017534844798 (pos 3))
 
 abbrev number : ℕ → Outcome Float
 number n = value (whole n)
@@ -71,7 +64,7 @@ T-saturation p =
 
 -- the calls: T from 623.15 to 647.096, p from 16.529 to 22.064; what is answered has no range
 unfoldable pub p-saturationRule : Float → Outcome Float
-p-saturationRule t = then (onlyRule T-FROM T-MAX4 t) (λ _. p-saturation t)
+p-saturationRule t = then (saturatedTBox t) (λ _. p-saturation t)
 
 unfoldable pub T-saturationRule : Float → Outcome Float
-T-saturationRule p = then (onlyRule P-FROM P-MAX4 p) (λ _. T-saturation p)
+T-saturationRule p = then (saturatedPBox p) (λ _. T-saturation p)

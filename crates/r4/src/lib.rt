@@ -1,4 +1,4 @@
-// The saturation line of region 4: R7-97, equations 30 and 31.
+// The saturation line of region 4: R7-97, equations 30 and 31. First the steps of each, then the calls.
 // The steps are raw: a number that is lost travels as itself to the end, and only a divisor is tested before it could be hidden.
 use common::Answer;
 use common::Kelvin;
@@ -11,12 +11,13 @@ use common::Verdict;
 use common::check_only;
 use common::is_finite;
 use common::or_nan;
+use common::over;
 use common::settle;
-use rules::over;
 use rules::power;
 use rules::raw_root;
 ghost use mathlib.Core.Path.{_≡_};
-ghost use Rattle.common.specs.Outcome.{check, orNan};
+ghost use Rattle.common.specs.Outcome.{orNan};
+ghost use Rattle.common.specs.Formula.{Raw};
 ghost use Rattle.common.specs.Answer.{paper};
 ghost use Rattle.r4.specs.Saturation.{p-saturation, p-saturationRule, T-saturation, T-saturationRule};
 
@@ -43,28 +44,28 @@ const N10: f64 = 0.65017534844798e3;
 
 // Equation 30.
 fn p_steps(t: f64) -> f64
-    ensures { λ r. ⌜ check r ≡ p-saturation t ⌝ }
+    ensures { λ r. ⌜ Raw (p-saturation t) r ⌝ }
 {
     let theta = t + over(N9, t - N10);
     let a = theta * (theta + N1) + N2;
     let b = theta * (N3 * theta + N4) + N5;
     let c = theta * (N6 * theta + N7) + N8;
-    let below = -b + raw_root(b * b - 4.0 * a * c);
-    or_nan(power(over(2.0 * c, below), 4))
+    let divisor = -b + raw_root(b * b - 4.0 * a * c);
+    or_nan(power(over(2.0 * c, divisor), 4))
 }
 
 // Equation 31.
 fn t_steps(p: f64) -> f64
-    ensures { λ r. ⌜ check r ≡ T-saturation p ⌝ }
+    ensures { λ r. ⌜ Raw (T-saturation p) r ⌝ }
 {
     let beta = raw_root(raw_root(p));
     let e = beta * (beta + N3) + N6;
     let f = beta * (N1 * beta + N4) + N7;
     let g = beta * (N2 * beta + N5) + N8;
-    let below = -f - raw_root(f * f - 4.0 * e * g);
-    let d = over(2.0 * g, below);
-    let under = (N10 + d) * (N10 + d) - 4.0 * (N9 + N10 * d);
-    0.5 * (N10 + d - raw_root(under))
+    let divisor = -f - raw_root(f * f - 4.0 * e * g);
+    let d = over(2.0 * g, divisor);
+    let square = (N10 + d) * (N10 + d) - 4.0 * (N9 + N10 * d);
+    0.5 * (N10 + d - raw_root(square))
 }
 
 // The saturation pressure in MPa.
@@ -87,10 +88,10 @@ pub fn T_saturation(p: MPa) -> Answer
     }
 }
 
-// For the layers above, which test once and have a p in range: a NaN where a step is refused.
-pub fn raw_T_saturation(p: f64) -> f64
-    ensures { λ r. ⌜ (r ≡ orNan (T-saturation p)) × (check r ≡ T-saturation p) ⌝ }
+// For the layers above, which have tested p and test once more at the end: equation 31 at any p, and a NaN where a step is refused.
+pub fn raw_T_saturation(p: MPa) -> f64
+    ensures { λ r. ⌜ r ≡ orNan (T-saturation (p .0)) ⌝ }
 {
-    let t = t_steps(p);
+    let t = t_steps(p.0);
     if is_finite(t) { t } else { 0.0 / 0.0 }
 }

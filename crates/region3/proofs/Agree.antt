@@ -1,28 +1,38 @@
 -- The column run beside the record and the letter choice. Assumes nothing.
-use mathlib.Core.Path.{_≡_, sym, ap, _∙_}
-use mathlib.Core.Bool.{Bool, true, false}
+use Rattle.record.specs.Record.{byteOf}
+use Rattle.common.specs.Formula.{_⊘_}
+use Prim.Native.Nat.{ℕ}
+use native.Mathlib.Omega.{arith}
+use mathlib.Core.Path.{_≡_, refl, sym, ap, _∙_}
+use mathlib.Core.Bool.{Bool, true, false, cond}
 use lib.Ieee.{Float}
-use Rattle.common.specs.Outcome.{Outcome, value, then, pick, check}
+use Rattle.common.specs.Outcome.{Outcome, value, refused, then, check}
 use Rattle.common.specs.Decimal.{whole}
-use Rattle.common.specs.Constant.{DC-WATER, P-FROM, P-TO, T-FROM, T-TO}
-use Rattle.common.specs.Range.{pairRule}
-use Rattle.rules.specs.Formula.{_⊘_}
-use Rattle.state.specs.State.{densityOf}
-use Rattle.letter.specs.Letter.{byteIn}
-use Rattle.letter.specs.declared.Letter.{Letter}
+use Rattle.common.specs.Constant.{DC-WATER}
+use Rattle.common.specs.Range.{pTBox}
+use Rattle.record.specs.State.{densityOf}
+use Rattle.subregion.specs.Letter.{byteIn}
+use Rattle.subregion.specs.declared.Letter.{Letter}
 use Rattle.boundary.specs.Choice.{letterAt, letterRule}
 use Rattle.volume.specs.Equation.{volumeAt}
-use Rattle.volume.specs.declared.Origin.{Origin}
-use Rattle.volume.specs.declared.Origin.the-variants.{Subregion, Critical}
-use Rattle.volume.specs.Found.{State, byteOf, stateOf, atCritical, originAt, originRule, stateBy, foundRule}
-use Rattle.helmholtz.specs.Record.{recordSteps, recordAfter, pressureFrom}
-use Rattle.helmholtz.specs.Td.{Td2h, Td2s, Td2u, Td2cv, Td2cp, Td2w}
-use Rattle.helmholtz.specs.declared.Record.{Record}
-use Rattle.helmholtz.specs.declared.Pressure.{Pressure}
-use Rattle.helmholtz.specs.declared.Pressure.the-variants.{Worked}
+use Rattle.record.specs.declared.Origin.{Origin}
+use Rattle.record.specs.declared.Origin.the-variants.{Subregion, Critical}
+use Rattle.volume.specs.Volumes.{State, stateOf, atCritical, originAt, originRule, stateBy, foundRule}
+use Rattle.td_record.specs.Steps.{recordSteps, recordAfter, pressureFrom}
+use Rattle.properties.specs.Td.{Td2h, Td2s, Td2u, Td2cv, Td2cp, Td2w}
+use Rattle.record.specs.declared.Record.{Record}
+use Rattle.td_record.specs.declared.Pressure.{Pressure}
+use Rattle.td_record.specs.declared.Pressure.the-variants.{Worked}
 use Rattle.region3.specs.Entries.{pTRule}
-use Rattle.region3.specs.Columns.{lineIn, rowRule, letterIn, densityIn, refusalIn}
-use Rattle.region3.proofs.Went.{went-on}
+use Rattle.column_run.specs.Columns.{lineIn, rowRule, letterIn, densityIn, refusalIn}
+
+no-value : {B : Type 0} (n : ℕ) (b : B) → _≡_ {A = Outcome B} (refused n) (value b) → ⊥
+no-value n b e = let z : _≡_ {A = ℕ} 0 1 = cc in omega arith
+
+-- where a step goes on to a value, it gave one
+went-on : {A B : Type 0} (o : Outcome A) (f : A → Outcome B) (b : B) (C : Type 0) → then o f ≡ value b → ((a : A) → o ≡ value a → f a ≡ value b → C) → C
+went-on (value a) f b C e k = k a refl e
+went-on (refused n) f b C e k = absurd (no-value n b e)
 
 -- a record's d is that of the state from which it is worked
 record-d : (t d v : Float) (source : Pressure) (r : Record) → recordSteps t d v source ≡ value r → r .d ≡ d
@@ -55,11 +65,11 @@ unfolding stateBy
 state-is (Subregion l) p t s e = origin-is (Subregion l) (volumeAt l p t) s e
 state-is Critical p t s e = origin-is Critical (value (whole 1) ⊘ value DC-WATER) s e
 
-origin-by : (p t : Float) (b : Bool) → atCritical p t ≡ value b → originAt p t ≡ pick b (value Critical) (then (letterAt p t) (λ l. value (Subregion l)))
+origin-by : (p t : Float) (b : Bool) → atCritical p t ≡ value b → originAt p t ≡ cond b (value Critical) (then (letterAt p t) (λ l. value (Subregion l)))
 unfolding originAt
 origin-by p t b f = rw f
 
-letter-by : (p t : Float) (u : Unit) (l : Letter) → pairRule P-FROM P-TO p T-FROM T-TO t ≡ value u → letterAt p t ≡ value l → letterRule p t ≡ value l
+letter-by : (p t : Float) (u : Unit) (l : Letter) → pTBox p t ≡ value u → letterAt p t ≡ value l → letterRule p t ≡ value l
 unfolding letterRule
 letter-by p t u l box h = rw box h
 
@@ -73,7 +83,7 @@ module _ (p t : Float) (s : State) (accepted : foundRule p t ≡ value s) where
   unfolding foundRule originRule
   letter-is f =
       went-on (originRule p t) _ s _ accepted (λ o g e.
-      went-on (pairRule P-FROM P-TO p T-FROM T-TO t) _ o _ g (λ u box e₁.
+      went-on (pTBox p t) _ o _ g (λ u box e₁.
       went-on (letterAt p t) (λ l. value (Subregion l)) o _ (sym (origin-by p t false f) ∙ e₁) (λ l h e₂.
       let i : s .origin ≡ Subregion l = state-is o p t s e ∙ (cc) in
       byte-is ∙ ap byteOf i ∙ sym (ap byteIn (letter-by p t u l box h)))))
@@ -83,7 +93,7 @@ module _ (p t : Float) (s : State) (accepted : foundRule p t ≡ value s) where
   unfolding foundRule originRule
   critical-is f =
       went-on (originRule p t) _ s _ accepted (λ o g e.
-      went-on (pairRule P-FROM P-TO p T-FROM T-TO t) _ o _ g (λ _ _ e₁.
+      went-on (pTBox p t) _ o _ g (λ _ _ e₁.
       let h : value Critical ≡ value o = sym (origin-by p t true f) ∙ e₁ in
       let i : s .origin ≡ Critical = state-is o p t s e ∙ (cc) in
       byte-is ∙ ap byteOf i))

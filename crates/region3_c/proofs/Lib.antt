@@ -1,3 +1,4 @@
 -- What the proofs of several functions use.
-mod Reports
+mod Exports
 mod Unique
+mod Arguments

@@ -8,7 +8,7 @@ use denote.Ref.{now}
 use contract.Lifetimes.{Lfts}
 use denote.Triple.Clauses.{AtExit}
 use borrow.Fn.Kinds.{PK, RK, Out, Dens, endedOf, resT}
-use Rattle.region3.specs.Columns.{Lent, lent}
+use Rattle.column_run.specs.Columns.{Lent, lent}
 use Rattle.region3_c.proofs.r3_power.Kinds as power-kinds
 use Rattle.region3_c.proofs.r3_power.Reads as power
 use Rattle.region3_c.proofs.r3_root.Kinds as root-kinds

@@ -1,8 +1,8 @@
 // The column run on columns of unequal length, each of its five a row shorter and a row longer than the others: refusal 7, and every
 // cell of the lent columns as it was found. Equal columns beside them show that a call that is taken writes.
-use report::more;
-use report::say;
-use report::say_number;
+use tally::more;
+use tally::say;
+use tally::say_number;
 ghost use Prim.Native.Nat.{_≤_};
 
 // What the lent columns are filled with: nothing that a row could come to.
@@ -50,7 +50,7 @@ fn lend(p: usize, t: usize, l: usize, d: usize, r: usize) -> Lent
     let mut letters = [FOUND; 5];
     let mut densities = [FOUND_DENSITY; 5];
     let mut refusals = [FOUND; 5];
-    let verdict = region3::columns(
+    let verdict = column_run::columns(
         &ps[..p],
         &ts[..t],
         &mut letters[..l],

@@ -3,19 +3,19 @@
 // Rust at hand.
 mod lending;
 
-use report::Tally;
-use report::judged;
-use report::say;
-use report::say_counts;
-use report::say_number;
-use report::say_tally;
+use tally::Tally;
+use tally::judged;
+use tally::say;
+use tally::say_counts;
+use tally::say_number;
+use tally::say_tally;
 
 // One record.
 fn judge(record: &[u8], t: Tally, rows: &mut [u64], differ: &mut [u64]) -> Tally {
     judged(
         t,
         buffer::byte_at(record, 0),
-        reply::agrees(record),
+        entries::agrees(record),
         rows,
         differ,
     )

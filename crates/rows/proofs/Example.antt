@@ -3,10 +3,10 @@ use mathlib.Core.Path.{_≡_, refl}
 use mathlib.Core.List.{List, [], _∷_}
 use Prim.Native.Nat.{ℕ}
 use lib.Ieee.{ofBits, ofFields, odd, round, neg, add, sub, sum, mul, div, ofInt, le, lt, eq}
-use Rattle.common.specs.Decimal.{scaled, decimal as printed, whole, more, less}
+use Rattle.common.specs.Decimal.{scaled, decimal as printed, whole, plus, minus}
 use Rattle.common.specs.Sum.{total}
 use Rattle.rules.specs.Units.{inUnits}
-use Rattle.rules.specs.Power.{powerRule, rungsC}
+use Rattle.rules.specs.Power.{powerRule}
 use Rattle.rules.specs.Root.{rootRule, nearestRoot, wholeRoot}
 use Rattle.r4.specs.Saturation.{p-saturation}
 use Rattle.boundary.specs.Boundary.{formRule, straight3ef, table3cd, table3gh, table3ij, table3jk}
@@ -22,5 +22,5 @@ bytes =
     ∷ 0 ∷ 0 ∷ 0 ∷ 0 ∷ 0 ∷ 64 ∷ 89 ∷ 64 ∷ 0 ∷ 0 ∷ 0 ∷ 0 ∷ 0 ∷ 80 ∷ 132 ∷ 64 ∷ []
 
 pub example : outputOf 0 bytes ≡ bytesOf "1 g 0\n2 i 0\n3 - 2\nrows 3 left 0\n"
-unfolding bytes joined floatAt digitsIn decimal lineOf blockOf lastLine outputOf letterRule letterAt limit p-saturation chijkRule formRule straight3ef total table3cd table3gh table3ij table3jk powerRule rungsC rootRule nearestRoot wholeRoot inUnits printed whole more less scaled ofBits ofFields odd round neg add sub sum mul div ofInt le lt eq
+unfolding bytes joined floatAt digitsIn decimal lineOf blockOf lastLine outputOf letterRule letterAt limit p-saturation chijkRule formRule straight3ef total table3cd table3gh table3ij table3jk powerRule rootRule nearestRoot wholeRoot inUnits printed whole plus minus scaled ofBits ofFields odd round neg add sub sum mul div ofInt le lt eq
 example = refl

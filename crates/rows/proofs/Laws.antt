@@ -1,4 +1,5 @@
 -- Runs of stores joined, columns and lines row by row, decimal numbers, NaN patterns. Assumes nothing.
+use mathlib.Core.Bool.{cond}
 use mathlib.Core.Path.{_≡_, refl, sym, ap, _∙_, subst}
 use mathlib.Core.List.{List, [], _∷_, _++_}
 use mathlib.Core.Logic.{_⊎_, inl, inr}
@@ -12,8 +13,8 @@ use lib.ListN.{length, getD, set, take, length-append}
 use lib.Seq.{sets, lt-length-sets, getD-set-same, getD-set-other, take-suc, length-take-le}
 use lib.Ieee.{Float, nan}
 use borrow.Author.Tests.{lt-ltb, le-ltb}
-use Rattle.common.specs.Outcome.{Outcome, pick}
-use Rattle.letter.specs.declared.Letter.{Letter}
+use Rattle.common.specs.Outcome.{Outcome}
+use Rattle.subregion.specs.declared.Letter.{Letter}
 use Rattle.boundary.specs.Choice.{letterRule}
 use Rattle.rows.specs.Lines.{digitsIn, decimal, lineOf, linesOf, blockOf, pAt, tAt, pColumn, tColumn, Wrote}
 use Rattle.buffer.specs.Bytes.{joined}
@@ -92,7 +93,7 @@ fuel zero (suc j) (suc n) a b = absurd (not-suc-le-zero a)
 fuel (suc k) zero zero a b = refl
 fuel (suc k) zero (suc n) a b = absurd (not-suc-le-zero b)
 fuel (suc k) (suc j) n a b =
-    ap (λ (xs : List ℕ). pick (ltb n 10) [] xs ++ ((48 + n % 10) ∷ [])) (fuel k j (n / 10) (omega arith) (omega arith))
+    ap (λ (xs : List ℕ). cond (ltb n 10) [] xs ++ ((48 + n % 10) ∷ [])) (fuel k j (n / 10) (omega arith) (omega arith))
 
 decimal-last : (n : ℕ) → n < 10 → decimal n ≡ (48 + n % 10) ∷ []
 unfolding decimal digitsIn

@@ -1,4 +1,5 @@
--- What `letters` reads and writes, byte by byte (document 01, "Columns and the letters program"). Assumes nothing: these are definitions.
+-- What `letters` reads and writes, byte by byte (docs/SCOPE.md). Assumes nothing: these are definitions.
+use mathlib.Core.Bool.{cond}
 use Prim.Native.Nat.{ℕ, zero, suc, _+_, _*_, _-_, _/_, _%_, _^_, min}
 use Prim.Native.Char.{code}
 use Prim.Native.String.{String}
@@ -9,9 +10,9 @@ use lib.Dec.{ltb}
 use lib.ListN.{length, getD}
 use lib.Seq.{sets}
 use lib.Ieee.{Float, nan}
-use Rattle.common.specs.Outcome.{Outcome, value, refused, numberIn, pick}
-use Rattle.letter.specs.declared.Letter.{Letter}
-use Rattle.letter.specs.Letter.{asciiOf}
+use Rattle.common.specs.Outcome.{Outcome, value, refused, numberIn}
+use Rattle.subregion.specs.declared.Letter.{Letter}
+use Rattle.subregion.specs.Letter.{asciiOf}
 use Rattle.boundary.specs.Choice.{letterRule}
 use Rattle.buffer.specs.Bytes.{joined, floatAt}
 
@@ -42,7 +43,7 @@ bytesOf (string._∷_ c s) = code c ∷ bytesOf s
 -- a number in decimal: its last digit and, where it is not below 10, its tenth part before it
 unfoldable pub digitsIn : ℕ → ℕ → List ℕ
 digitsIn zero n = (code "0" + n % 10) ∷ []
-digitsIn (suc k) n = pick (ltb n 10) [] (digitsIn k (n / 10)) ++ ((code "0" + n % 10) ∷ [])
+digitsIn (suc k) n = cond (ltb n 10) [] (digitsIn k (n / 10)) ++ ((code "0" + n % 10) ∷ [])
 
 -- n turns are enough
 unfoldable pub decimal : ℕ → List ℕ

@@ -2,13 +2,13 @@
 use boundary::sub_region3_pT;
 use common::Kelvin;
 use common::MPa;
-use letter::Choice;
-use letter::ascii;
-use letter::refusal_byte;
+use subregion::LetterAnswer;
+use subregion::ascii;
+use subregion::refusal_byte;
 ghost use mathlib.Core.Path.{_≡_};
 ghost use Prim.Native.Nat.{_+_, _*_, _≤_, _<_, _^_, _%_};
 ghost use lib.ListN.{length};
-ghost use Rattle.letter.specs.Letter.{chosen};
+ghost use Rattle.subregion.specs.Letter.{paperLetter};
 ghost use Rattle.rows.specs.Lines.{decimal, markIn, lineOf, linesOf, Wrote};
 
 // All of src.
@@ -44,19 +44,19 @@ pub fn put_decimal(out: &mut [u8], at: usize, n: u64) -> usize
     next + 1
 }
 
-fn mark(c: Choice) -> u8
-    ensures { λ r. ⌜ r ≡ markIn (chosen c) ⌝ }
+fn mark(c: LetterAnswer) -> u8
+    ensures { λ r. ⌜ r ≡ markIn (paperLetter c) ⌝ }
 {
     match c {
-        Choice::Taken(l) => ascii(l),
-        Choice::Refused(_) => b'-',
+        LetterAnswer::Value(l) => ascii(l),
+        LetterAnswer::Refused(_) => b'-',
     }
 }
 
 // The line of one row, of 27 bytes at most.
-fn put_line(out: &mut [u8], at: usize, row: u64, c: Choice) -> usize
+fn put_line(out: &mut [u8], at: usize, row: u64, c: LetterAnswer) -> usize
     requires { ⌜ at + 27 ≤ length (now out) ⌝ }
-    ensures { λ r. ⌜ Wrote (now (out .entry)) at (lineOf row (chosen c)) (now (out .exit)) r ⌝ }
+    ensures { λ r. ⌜ Wrote (now (out .entry)) at (lineOf row (paperLetter c)) (now (out .exit)) r ⌝ }
     ensures { λ r. ⌜ r ≤ at + 27 ⌝ }
 {
     let a = put_decimal(out, at, row);

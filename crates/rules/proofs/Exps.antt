@@ -17,9 +17,11 @@ use lib.Ieee.Exact.{HasValue}
 use lib.Ieee.Nearest.{closest, closest-same, closest-mono}
 use lib.Ieee.Order.{round-mono}
 use Rattle.common.specs.Outcome.{refused, finite, check}
-use Rattle.rules.specs.Log.{number, L}
-use Rattle.rules.specs.Exp.{wholeSize, signed, nearestWhole, turns, fourteen, twoTo, expSteps, rawTurns, rawExp, tame}
-use Rattle.common.proofs.Laws.{Lost, never, mul-left, mul-right, add-right, div-left, check-lost, check-kept, next}
+use Rattle.rules.specs.Log.{float, L}
+use Rattle.rules.specs.Exp.{wholeSize, withSign, nearestWhole, twoTo, from14, expSteps}
+use Rattle.rules.specs.RawExp.{rawExp, atMost1010}
+use Rattle.common.proofs.Laws.{never, check-kept}
+use Rattle.common.proofs.Formulas.{raw-value, raw-first, raw-fold, raw-add-from, raw-sub-from, raw-by, raw-times, _*ʳ_}
 use Rattle.rules.proofs.Fields.{bitsOf, bits-are, bits-lt, read-0, read-suc, shape, same}
 use Rattle.rules.proofs.Whole.{Cmp, cmp}
 use Rattle.rules.proofs.Rounds.{round-neg, round-shape, small-finite, le-sizes, ge-sizes}
@@ -158,25 +160,25 @@ module _ (m : ℕ) (e : ℤ) (f : T (fits binary64 (fin false m e))) where
         (mul-assoc (m * up e) (2 ^ p) (2 ^ k) ∙ ap (λ (y : ℕ). m * up e * y) (sym (pow-add 2 p k) ∙ ap (λ (y : ℕ). 2 ^ y) i) ∙ z .2 ∙ mul-right-comm r (2 ^ k) (down e)))
 
 -- ---- the same of q, whatever its sign; b is its pattern without the sign
-pub no-nan : (q : Float) → T (tame q) → T (not (isNan q))
+pub no-nan : (q : Float) → T (atMost1010 q) → T (not (isNan q))
 unfolding isNan
 no-nan nan t = absurd t
 no-nan (inf s) t = absurd t
 no-nan (fin s m e) t = tt
 
-pub q-low : (q : Float) → T (fits binary64 q) → T (tame q) → toBits binary64 q % 0x8000_0000_0000_0000 / 2 ^ 52 < 1022 → 0 ≡ wholeSize q
+pub q-low : (q : Float) → T (fits binary64 q) → T (atMost1010 q) → toBits binary64 q % 0x8000_0000_0000_0000 / 2 ^ 52 < 1022 → 0 ≡ wholeSize q
 q-low nan f t h = absurd t
 q-low (inf s) f t h = absurd t
 q-low (fin s m e) f t h = sym (small-whole m e (fits-size s m e f) (subst (λ (b : ℕ). b / 2 ^ 52 < 1022) (size-bits s m e f) h))
 
-pub q-field : (q : Float) → T (fits binary64 q) → T (tame q) → 1022 ≤ toBits binary64 q % 0x8000_0000_0000_0000 / 2 ^ 52 → toBits binary64 q % 0x8000_0000_0000_0000 / 2 ^ 52 ≤ 1032
+pub q-field : (q : Float) → T (fits binary64 q) → T (atMost1010 q) → 1022 ≤ toBits binary64 q % 0x8000_0000_0000_0000 / 2 ^ 52 → toBits binary64 q % 0x8000_0000_0000_0000 / 2 ^ 52 ≤ 1032
 q-field nan f t h = absurd t
 q-field (inf s) f t h = absurd t
 q-field (fin s m e) f t h =
     subst (λ (b : ℕ). b / 2 ^ 52 ≤ 1032) (sym (size-bits s m e f))
     (field-le m e (fits-size s m e f) (leb→le (m * up e) (1010 * down e) t) (subst (λ (b : ℕ). 1022 ≤ b / 2 ^ 52) (size-bits s m e f) h))
 
-pub q-whole : (q : Float) → T (fits binary64 q) → T (tame q) → 1022 ≤ toBits binary64 q % 0x8000_0000_0000_0000 / 2 ^ 52
+pub q-whole : (q : Float) → T (fits binary64 q) → T (atMost1010 q) → 1022 ≤ toBits binary64 q % 0x8000_0000_0000_0000 / 2 ^ 52
     → wholeSize q ≡ closest (toBits binary64 q % 0x8000_0000_0000_0000 % 2 ^ 52 + 2 ^ 52) (2 ^ (1075 - toBits binary64 q % 0x8000_0000_0000_0000 / 2 ^ 52))
 q-whole nan f t h = absurd t
 q-whole (inf s) f t h = absurd t
@@ -184,7 +186,7 @@ q-whole (fin s m e) f t h =
     subst (λ (b : ℕ). closest (m * up e) (down e) ≡ closest (b % 2 ^ 52 + 2 ^ 52) (2 ^ (1075 - b / 2 ^ 52))) (sym (size-bits s m e f))
     (large-whole m e (fits-size s m e f) (leb→le (m * up e) (1010 * down e) t) (subst (λ (b : ℕ). 1022 ≤ b / 2 ^ 52) (size-bits s m e f) h))
 
-pub whole-le : (q : Float) → T (tame q) → wholeSize q ≤ 1010
+pub whole-le : (q : Float) → T (atMost1010 q) → wholeSize q ≤ 1010
 whole-le nan t = absurd t
 whole-le (inf s) t = absurd t
 whole-le (fin s m e) t = closest-mono (m * up e) (down e) 1010 1 (down-pos e) (zero-lt-suc 0) (le-trans (le-of-eq (mul-one (m * up e))) (leb→le (m * up e) (1010 * down e) t))
@@ -241,27 +243,27 @@ module _ (m : ℕ) (e : ℤ) (h : m * up e ≤ 700 * down e) where
       subst (λ (x : Float). T (le (round binary64 false (m * up e * 2 ^ 53) (6243314768165359 * down e)) x)) end-is
       (round-mono binary64 (m * up e * 2 ^ 53) (6243314768165359 * down e) (700 * 2 ^ 53) 6243314768165359 positive-den (lit< {m = 0} {n = 6243314768165359} tt) (cross (m * up e) (down e) h))
 
-  quotient-tame : T (tame (round binary64 false (m * up e * 2 ^ 53) (6243314768165359 * down e)))
-  quotient-tame = go (round-shape binary64 false (m * up e * 2 ^ 53) (6243314768165359 * down e))
+  quotient-atMost1010 : T (atMost1010 (round binary64 false (m * up e * 2 ^ 53) (6243314768165359 * down e)))
+  quotient-atMost1010 = go (round-shape binary64 false (m * up e * 2 ^ 53) (6243314768165359 * down e))
     where
       go : (round binary64 false (m * up e * 2 ^ 53) (6243314768165359 * down e) ≡ inf false)
           ⊎ ((n : ℕ) × (d : ℤ) × (round binary64 false (m * up e * 2 ^ 53) (6243314768165359 * down e) ≡ fin false n d))
-          → T (tame (round binary64 false (m * up e * 2 ^ 53) (6243314768165359 * down e)))
+          → T (atMost1010 (round binary64 false (m * up e * 2 ^ 53) (6243314768165359 * down e)))
       go (inl z) = never (sym (subst (λ (x : Float). finite x ≡ true) z quotient-finite))
       go (inr z) =
-          subst (λ (x : Float). T (tame x)) (sym (z .2))
+          subst (λ (x : Float). T (atMost1010 x)) (sym (z .2))
           (le→leb (z .0 * up (z .1)) (1010 * down (z .1))
           (under-1010 (z .0 * up (z .1)) (down (z .1)) (le-sizes (z .0) (z .1) 1110381980954531 (negsuc 39) (subst (λ (x : Float). T (le x (fin false 1110381980954531 (negsuc 39)))) (z .2) quotient-le'))))
 
-tame-neg : (x : Float) → T (tame x) → T (tame (neg x))
+atMost1010-neg : (x : Float) → T (atMost1010 x) → T (atMost1010 (neg x))
 unfolding neg
-tame-neg nan t = t
-tame-neg (inf s) t = t
-tame-neg (fin s m e) t = t
+atMost1010-neg nan t = t
+atMost1010-neg (inf s) t = t
+atMost1010-neg (fin s m e) t = t
 
-sized : (s : Bool) (m : ℕ) (e : ℤ) → m * up e ≤ 700 * down e → T (tame (round binary64 s (m * up e * 2 ^ 53) (6243314768165359 * down e)))
-sized false m e h = quotient-tame m e h
-sized true m e h = subst (λ (x : Float). T (tame x)) (round-neg binary64 false (m * up e * 2 ^ 53) (6243314768165359 * down e)) (tame-neg _ (quotient-tame m e h))
+sized : (s : Bool) (m : ℕ) (e : ℤ) → m * up e ≤ 700 * down e → T (atMost1010 (round binary64 s (m * up e * 2 ^ 53) (6243314768165359 * down e)))
+sized false m e h = quotient-atMost1010 m e h
+sized true m e h = subst (λ (x : Float). T (atMost1010 x)) (round-neg binary64 false (m * up e * 2 ^ 53) (6243314768165359 * down e)) (atMost1010-neg _ (quotient-atMost1010 m e h))
 
 -- 700 is 175 * 4
 abbrev hundreds : Bool → Float
@@ -274,25 +276,25 @@ in-range : (s : Bool) (m : ℕ) (e : ℤ) → le (hundreds true) (fin s m e) ≡
 in-range false m e g h = le-trans (le-of-eq (sym (mul-one (m * up e)))) (le-sizes m e 175 (pos 2) (to-T h))
 in-range true m e g h = le-trans (le-of-eq (sym (mul-one (m * up e)))) (ge-sizes 175 (pos 2) m e (to-T g))
 
-pub tame-quotient : (x : Float) → finite x ≡ true → le (hundreds true) x ≡ true → le x (hundreds false) ≡ true → T (tame (div binary64 x L))
-tame-quotient nan f g h = never (sym f)
-tame-quotient (inf s) f g h = never (sym f)
-tame-quotient (fin s m e) f g h = rw (l-is, div-l s m e) (sized s m e (in-range s m e g h))
+pub quotient-small : (x : Float) → finite x ≡ true → le (hundreds true) x ≡ true → le x (hundreds false) ≡ true → T (atMost1010 (div binary64 x L))
+quotient-small nan f g h = never (sym f)
+quotient-small (inf s) f g h = never (sym f)
+quotient-small (fin s m e) f g h = rw (l-is, div-l s m e) (sized s m e (in-range s m e g h))
 
-pub tame-finite : (q : Float) → T (tame q) → finite q ≡ true
-tame-finite nan t = absurd t
-tame-finite (inf s) t = absurd t
-tame-finite (fin s m e) t = refl
+pub small-is-finite : (q : Float) → T (atMost1010 q) → finite q ≡ true
+small-is-finite nan t = absurd t
+small-is-finite (inf s) t = absurd t
+small-is-finite (fin s m e) t = refl
 
 -- ---- k with its sign
 nothing : (e : ℤ) → closest (zero * up e) (down e) ≡ 0
 nothing e = half-0 (zero * up e) (down e) (down-pos e) (subst (λ (y : ℕ). y * 2 < down e) (sym (zero-mul (up e))) (down-pos e))
 
-pub signed-whole : (q : Float) → finite q ≡ true → signed (lt q (fin false 0 (pos 0))) (wholeSize q) ≡ nearestWhole q
+pub signed-whole : (q : Float) → finite q ≡ true → withSign (lt q (fin false 0 (pos 0))) (wholeSize q) ≡ nearestWhole q
 unfolding nearestWhole lt
 signed-whole nan f = never (sym f)
 signed-whole (inf s) f = never (sym f)
-signed-whole (fin false m e) f = ap (λ (b : Bool). signed b (closest (m * up e) (down e))) (no (ltb (m * up e * 1) (0 * down e)) (ltb→lt (m * up e * 1) (0 * down e)))
+signed-whole (fin false m e) f = ap (λ (b : Bool). withSign b (closest (m * up e) (down e))) (no (ltb (m * up e * 1) (0 * down e)) (ltb→lt (m * up e * 1) (0 * down e)))
   where
     zero-less : (n z : ℕ) → z ≡ 0 → n < z → ⊥
     zero-less n z h g = omega arith
@@ -302,10 +304,10 @@ signed-whole (fin false m e) f = ap (λ (b : Bool). signed b (closest (m * up e)
     no false h = refl
 signed-whole (fin true zero e) f = rw (nothing e) (go (ltb 0 (zero * up e * 1 + 0 * down e)))
   where
-    go : (b : Bool) → signed b 0 ≡ signed true 0
+    go : (b : Bool) → withSign b 0 ≡ withSign true 0
     go true = refl
     go false = refl
-signed-whole (fin true (suc m) e) f = ap (λ (b : Bool). signed b (closest (suc m * up e) (down e))) (yes (ltb 0 (suc m * up e * 1 + 0 * down e)) (lt→ltb 0 (suc m * up e * 1 + 0 * down e) more))
+signed-whole (fin true (suc m) e) f = ap (λ (b : Bool). withSign b (closest (suc m * up e) (down e))) (yes (ltb 0 (suc m * up e * 1 + 0 * down e)) (lt→ltb 0 (suc m * up e * 1 + 0 * down e) more))
   where
     more-of : (a b : ℕ) → 0 < a → 0 < a * 1 + b
     more-of a b h = omega arith
@@ -361,46 +363,10 @@ two-down i h =
     back : (i : ℕ) → i < 1010 → 1022 - suc i + suc i ≡ 1022
     back i h = omega arith
 
--- ---- the checks
-neg-lost : (x : Float) → Lost x → Lost (neg x)
-unfolding neg
-neg-lost nan l = refl
-neg-lost (inf s) l = refl
-neg-lost (fin s m e) l = never l
+-- ---- the checks come to one at the end: the proof has the shape of the steps
 
-sub-right : (x y : Float) → Lost y → Lost (sub binary64 x y)
-unfolding sub
-sub-right x y l = add-right x (neg y) (neg-lost y l)
-
-abbrev turn : Float → Float → ℕ → Float
-turn r s j = add binary64 (number 1) (div binary64 (mul binary64 r s) (number j))
-
-turn-lost : (r s : Float) (j : ℕ) → Lost (mul binary64 r s) → Lost (turn r s j)
-turn-lost r s j l = add-right (number 1) (div binary64 (mul binary64 r s) (number j)) (div-left (mul binary64 r s) (number j) l)
-
-turns-lost : (r s : Float) (js : List ℕ) → Lost s → Lost (rawTurns r s js)
-unfolding rawTurns
-turns-lost r s [] l = l
-turns-lost r s (j ∷ js) l = turns-lost r (turn r s j) js (turn-lost r s j (mul-right r s l))
-
-lost-first : (r s : Float) (j : ℕ) (js : List ℕ) → Lost r → Lost (rawTurns r s (j ∷ js))
-unfolding rawTurns
-lost-first r s j js l = turns-lost r (turn r s j) js (turn-lost r s j (mul-left r s l))
-
-turns-check : (r s : Float) (js : List ℕ) → finite s ≡ true → turns r s js ≡ check (rawTurns r s js)
-unfolding turns rawTurns
-turns-check r s [] f = sym (check-kept s f)
-turns-check r s (j ∷ js) f =
-    let p = mul binary64 r s in
-    let d = div binary64 p (number j) in
-    let t = add binary64 (number 1) d in
-    let o = check (rawTurns r t js) in
-    let bad : Lost t → o ≡ refused 5 = λ l. check-lost (rawTurns r t js) (turns-lost r t js l) in
-    let bad-d : Lost d → o ≡ refused 5 = λ l. bad (add-right (number 1) d l) in
-    next p _ o (λ _. next d _ o (λ _. next t _ o (λ g. turns-check r t js g) bad) bad-d) (λ l. bad-d (div-left p (number j) l))
-
-one-finite : finite (number 1) ≡ true
-unfolding number ofInt round
+one-finite : finite (float 1) ≡ true
+unfolding ofInt round
 one-finite = refl
 
 pub exp-check : (x : Float) → finite (div binary64 x L) ≡ true
@@ -408,18 +374,9 @@ pub exp-check : (x : Float) → finite (div binary64 x L) ≡ true
 unfolding expSteps rawExp
 exp-check x f =
     let k = nearestWhole (div binary64 x L) in
-    let t = mul binary64 (ofInt binary64 k) L in
-    let r = sub binary64 x t in
-    let s = rawTurns r (number 1) fourteen in
-    let o = check (mul binary64 s (twoTo k)) in
-    let bad-s : Lost s → o ≡ refused 5 = λ l. check-lost (mul binary64 s (twoTo k)) (mul-left s (twoTo k) l) in
-    let bad-r : Lost r → o ≡ refused 5 = λ l. bad-s (lost-first r (number 1) 14 (13 ∷ 12 ∷ 11 ∷ 10 ∷ 9 ∷ 8 ∷ 7 ∷ 6 ∷ 5 ∷ 4 ∷ 3 ∷ 2 ∷ 1 ∷ []) l) in
-    rw (check-kept (div binary64 x L) f)
-    (next t _ o
-    (λ _. next r _ o
-    (λ _. rw (turns-check r (number 1) fourteen one-finite) (next s _ o (λ _. refl) bad-s))
-    bad-r)
-    (λ l. bad-r (sub-right x t l)))
+    let r = raw-sub-from x (raw-first (mul binary64) (ofInt binary64 k) L) in
+    let s = raw-fold (λ _ _ j p. raw-add-from (float 1) (raw-by (float j) (r *ʳ p))) (raw-value (float 1) one-finite) from14 in
+    rw (check-kept (div binary64 x L) f) (raw-times (twoTo k) s .is)
 
 -- ---- by sign
 pub minus-number : (n : ℕ) → (n ≡ 0 → ⊥) → neg (ofInt binary64 (pos n)) ≡ ofInt binary64 (negℤ (pos n))

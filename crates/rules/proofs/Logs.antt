@@ -1,6 +1,5 @@
--- The logarithm's rule at a number's 53 digits, and that its checks come to one at the end. Assumes nothing.
+-- The logarithm's rule is its steps with no check, checked once, at a number's 53 digits. In order: the checks, m, its places, and the rule. Assumes nothing.
 use mathlib.Core.Path.{_≡_, refl, sym, ap, _∙_, subst}
-use mathlib.Core.List.{List, [], _∷_}
 use Prim.Native.Nat.{ℕ, suc, _+_, _-_, _*_, _^_, _≤_, _<_}
 use native.Mathlib.Nat.{le-trans, le-of-eq, le-of-lt, lt-of-lt-of-le, mul-pos, mul-assoc, mul-right-comm, mul-le-mul-right, mul-lt-mul-of-pos-right, le-of-mul-le-mul-right, lt-of-mul-lt-mul-right, pow-succ'}
 use native.Mathlib.Omega.{arith}
@@ -12,72 +11,25 @@ use lib.Ieee.{Float, nan, inf, fin, binary64, up, down, minus, size, round, add,
 use lib.Ieee.Bits.{ofBits-fits, is-true}
 use lib.Ieee.Fits.{round-fits, down-pos}
 use lib.Ieee.Exact.{HasValue, round-exact}
-use Rattle.common.specs.Outcome.{refused, finite, check}
+use Rattle.common.specs.Outcome.{finite, check}
 use Rattle.rules.specs.Units.{inUnits, positive}
-use Rattle.rules.specs.Log.{number, L, inverse, series, odds, lnSteps, places, lnOf, logarithmRule, rawSeries, rawLn}
-use Rattle.common.proofs.Laws.{Lost, mul-left, mul-right, add-left, add-right, div-left, check-lost, check-kept, next}
+use Rattle.rules.specs.Log.{float, L, oddsFrom25, lnSteps, places, lnOf, logarithmRule}
+use Rattle.rules.specs.RawLog.{rawLn}
+use Rattle.common.proofs.Formulas.{raw-div, raw-first, raw-fold, raw-scale, _+ʳ_, _*ʳ_}
 use Rattle.rules.proofs.Fields.{PartsOf, same, read-suc}
 use Rattle.rules.proofs.Whole.{size-is}
 use Rattle.rules.proofs.Signs.{above}
 use Rattle.rules.proofs.Rounds.{small-finite, rescale}
 
--- ---- the checks
+-- ---- the checks come to one at the end: the proof has the shape of the steps
 
-series-lost : (y q : Float) (ks : List ℕ) → Lost q → Lost (rawSeries y q ks)
-unfolding rawSeries
-series-lost y q [] l = l
-series-lost y q (k ∷ ks) l = series-lost y (add binary64 (mul binary64 q y) (inverse k)) ks (add-left (mul binary64 q y) (inverse k) (mul-left q y l))
-
-lost-first : (y q : Float) (k : ℕ) (ks : List ℕ) → Lost y → Lost (rawSeries y q (k ∷ ks))
-unfolding rawSeries
-lost-first y q k ks l = series-lost y (add binary64 (mul binary64 q y) (inverse k)) ks (add-left (mul binary64 q y) (inverse k) (mul-right q y l))
-
-series-check : (y q : Float) (ks : List ℕ) → finite q ≡ true → series y q ks ≡ check (rawSeries y q ks)
-unfolding series rawSeries
-series-check y q [] f = sym (check-kept q f)
-series-check y q (k ∷ ks) f =
-    let p = mul binary64 q y in
-    let s = add binary64 p (inverse k) in
-    let o = check (rawSeries y s ks) in
-    let bad : Lost s → o ≡ refused 5 = λ l. check-lost (rawSeries y s ks) (series-lost y s ks l) in
-    next p _ o (λ _. next s _ o (λ g. series-check y s ks g) bad) (λ l. bad (add-left p (inverse k) l))
-
-first : finite (inverse 27) ≡ true
-unfolding inverse number div ofInt round
-first = refl
-
-pub ln-check : (m : Float) (e : ℤ) → finite (add binary64 m (number 1)) ≡ true → lnSteps m e ≡ check (rawLn m (ofInt binary64 e))
-unfolding lnSteps rawLn rawSeries
+pub ln-check : (m : Float) (e : ℤ) → finite (add binary64 m (float 1)) ≡ true → lnSteps m e ≡ check (rawLn m (ofInt binary64 e))
+unfolding lnSteps rawLn
 ln-check m e f =
-    let a = sub binary64 m (number 1) in
-    let b = add binary64 m (number 1) in
-    let z = div binary64 a b in
-    let y = mul binary64 z z in
-    let q = rawSeries y (inverse 27) odds in
-    let t = mul binary64 (ofInt binary64 e) L in
-    let w = mul binary64 (number 2) z in
-    let v = mul binary64 w q in
-    let o = check (add binary64 t v) in
-    let bad-v : Lost v → o ≡ refused 5 = λ l. check-lost (add binary64 t v) (add-right t v l) in
-    let bad-q : Lost q → o ≡ refused 5 = λ l. bad-v (mul-right w q l) in
-    let bad-w : Lost w → o ≡ refused 5 = λ l. bad-v (mul-left w q l) in
-    let bad-z : Lost z → o ≡ refused 5 = λ l. bad-w (mul-right (number 2) z l) in
-    let bad-y : Lost y → o ≡ refused 5 = λ l. bad-q (lost-first y (inverse 27) 25 (23 ∷ 21 ∷ 19 ∷ 17 ∷ 15 ∷ 13 ∷ 11 ∷ 9 ∷ 7 ∷ 5 ∷ 3 ∷ 1 ∷ []) l) in
-    next a _ o
-    (λ _. rw (check-kept b f)
-    (next z _ o
-    (λ _. next y _ o
-    (λ _. rw (series-check y (inverse 27) odds first)
-    (next q _ o
-    (λ _. next t _ o
-    (λ _. next w _ o
-    (λ _. next v _ o (λ _. refl) bad-v)
-    bad-w)
-    (λ l. check-lost (add binary64 t v) (add-left t v l)))
-    bad-q))
-    bad-y)
-    bad-z))
-    (λ l. bad-z (div-left a b l))
+    let z = raw-div f (raw-first (sub binary64) m (float 1)) (raw-first (add binary64) m (float 1)) in
+    let y = z *ʳ z in
+    let q = raw-fold (λ _ _ k p. p *ʳ y +ʳ raw-first (div binary64) (float 1) (float k)) (raw-first (div binary64) (float 1) (float 27)) oddsFrom25 in
+    (raw-first (mul binary64) (ofInt binary64 e) L +ʳ raw-scale (float 2) z *ʳ q) .is
 
 -- ---- m: from 0.75 up to 1.5
 
@@ -108,8 +60,8 @@ at-most d j w h g =
     turn : (a w : ℕ) → 2 * a * w ≡ 2 * w * a
     turn a w = mul-right-comm 2 a w
 
-plus-one : (m : Float) (d j : ℕ) → d < 2 ^ 53 → j ≤ 1022 → HasValue m false (d * 2 ^ j) (2 ^ 1074) → finite (add binary64 m (number 1)) ≡ true
-unfolding add sum number ofInt round
+plus-one : (m : Float) (d j : ℕ) → d < 2 ^ 53 → j ≤ 1022 → HasValue m false (d * 2 ^ j) (2 ^ 1074) → finite (add binary64 m (float 1)) ≡ true
+unfolding add sum ofInt round
 plus-one nan d j h g v = absurd v
 plus-one (inf s) d j h g v = absurd v
 plus-one (fin true n i) d j h g v = absurd (subst T (v .0) tt)

@@ -9,16 +9,19 @@ use lib.Ieee.{Float, nan, inf, fin, binary64, fits, le, neg, div, round, ofInt, 
 use borrow.Author.Tests.{ltb-true, ltb-false}
 use Rattle.common.specs.Outcome.{finite, check, inside, orNan}
 use Rattle.common.proofs.Laws.{check-kept, raw-inside, inside-check}
-use Rattle.rules.specs.Power.{powerRule, rawPower}
+use Rattle.rules.specs.Power.{powerRule}
+use Rattle.rules.specs.RawPower.{rawPower}
 use Rattle.rules.specs.Units.{inUnits}
 use Rattle.rules.specs.Root.{rootRule, nearestRoot, fromZero}
-use Rattle.rules.specs.Log.{logarithmRule, lnOf, rawLn, L, number}
-use Rattle.rules.specs.Exp.{exponentialRule, expSteps, rawExp, nearestWhole, twoTo}
+use Rattle.rules.specs.Log.{logarithmRule, lnOf, L}
+use Rattle.rules.specs.RawLog.{rawLn}
+use Rattle.rules.specs.Exp.{exponentialRule, expSteps, nearestWhole, twoTo}
+use Rattle.rules.specs.RawExp.{rawExp}
 use Rattle.rules.proofs.Fields.{PartsOf}
 use Rattle.rules.proofs.Powers.{power-check}
 use Rattle.rules.proofs.Meaning.{root-held, parts-of}
 use Rattle.rules.proofs.Logs.{ln-low, ln-high}
-use Rattle.rules.proofs.Exps.{tame-quotient, tame-finite, exp-check}
+use Rattle.rules.proofs.Exps.{quotient-small, small-is-finite, exp-check}
 
 -- at a finite a and an n from -64 to 64
 pub raw-power : (a : Float) (n : ℤ) → finite a ≡ true → leb (natAbs n) 64 ≡ true → check (rawPower a n) ≡ inside (powerRule a n)
@@ -53,14 +56,14 @@ raw-logarithm (fin true (suc m) e) f = refl
 raw-logarithm (fin false (suc m) e) f = let p = parts-of (fin false (suc m) e) f tt in ln-raw _ (p .0) (p .1) _ (p .2) refl
 
 exp-raw : (x : Float) (f g h : Bool) → finite x ≡ f → le (fin true 175 (pos 2)) x ≡ g → le x (fin false 175 (pos 2)) ≡ h → check (orNan (exponentialRule x)) ≡ inside (exponentialRule x)
-unfolding exponentialRule neg number ofInt round
+unfolding exponentialRule neg ofInt round
 exp-raw x false g h ef eg eh = rw ef
 exp-raw x true false h ef eg eh = rw (ef, eg)
 exp-raw x true true false ef eg eh = rw (ef, eg, eh)
 exp-raw x true true true ef eg eh =
     let k = nearestWhole (div binary64 x L) in
     rw (ef, eg, eh)
-    (raw-inside (expSteps x) (rawExp x (ofInt binary64 k) (twoTo k)) (exp-check x (tame-finite (div binary64 x L) (tame-quotient x ef eg eh))))
+    (raw-inside (expSteps x) (rawExp x (ofInt binary64 k) (twoTo k)) (exp-check x (small-is-finite (div binary64 x L) (quotient-small x ef eg eh))))
 
 pub raw-exponential : (x : Float) → check (orNan (exponentialRule x)) ≡ inside (exponentialRule x)
 raw-exponential x = exp-raw x _ _ _ refl refl refl

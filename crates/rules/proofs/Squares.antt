@@ -1,53 +1,60 @@
--- Refusing at a non-finite a*a too is the same rule: a*a is only formed while a higher bit remains, and then r takes it up. Assumes nothing.
-use mathlib.Core.Path.{_≡_, refl, sym, _∙_}
+-- Refusing at a lost x*x too is the same rule: x*x is only formed while a higher bit remains, and then r takes it up. In order: the bits with both tests,
+-- that the highest bit is set, and the theorem. Assumes nothing.
+use mathlib.Core.Path.{_≡_, refl, sym, _∙_, subst}
 use mathlib.Core.Bool.{Bool, true, false}
-use Prim.Native.Nat.{ℕ, zero, suc, _*_, _/_, _%_, _^_, _<_}
-use native.Mathlib.Nat.{pow-suc, pos-of-ne-zero}
+use mathlib.Core.List.{List, [], _∷_}
+use Prim.Native.Nat.{ℕ, zero, suc, _*_, _/_, _%_, _^_, _<_, _≤_}
+use native.Mathlib.Nat.{pow-suc}
 use native.Mathlib.Omega.{arith}
-use lib.Dec.{eqb}
-use lib.Ieee.{Float, binary64, mul}
-use borrow.Author.Tests.{eqb-true, eqb-false, eq-eqb}
-use Rattle.common.specs.Outcome.{Outcome, check, then}
-use Rattle.rules.specs.Power.{times, odd, rungs, rungsC}
-use Rattle.common.proofs.Laws.{Lost, next, check-lost, mul-left, mul-right}
-use Rattle.rules.proofs.Powers.{rungs-check, rungs-lost, times-lost}
+use lib.Dec.{T}
+use lib.Ieee.{Float, binary64, size, mul}
+use lib.Ieee.Digits.{size-lt, size-reaches}
+use borrow.Author.Tests.{eq-eqb}
+use Rattle.common.specs.Outcome.{Outcome, value, finite, check, then}
+use Rattle.common.proofs.Laws.{Lost, next, check-kept, check-lost, mul-left, mul-right}
+use Rattle.rules.specs.Power.{one, odd, lowest, bits, times, byBits}
+use Rattle.rules.proofs.Powers.{overBits, times-lost, bits-lost, bits-check}
 
--- as `rungsC`, where a non-finite a*a is refused too
-unfoldable pub rungsA : ℕ → Bool → Float → Float → ℕ → Outcome Float
-rungsA zero none r a h = check r
-rungsA (suc k) true r a h = check r
-rungsA (suc k) false r a h =
-    then (check r) (λ x. then (check (mul binary64 a a)) (λ b. rungsA k (eqb (h / 2) 0) (times (odd h) x b) b (h / 2)))
+-- as `byBits`, where a lost x*x is refused too
+unfoldable pub byBitsAndSquares : Float → Float → List Bool → Outcome Float
+byBitsAndSquares r x [] = value r
+byBitsAndSquares r x (bit ∷ []) = check (times bit r x)
+byBitsAndSquares r x (bit ∷ next ∷ higher) = then (check (times bit r x)) (λ r'. then (check (mul binary64 x x)) (λ x2. byBitsAndSquares r' x2 (next ∷ higher)))
 
-half : (k n : ℕ) → n < 2 ^ suc (suc k) → n / 2 < 2 ^ suc k
-half k n h = let p : 2 ^ suc (suc k) ≡ 2 ^ suc k * 2 = pow-suc 2 (suc k) in omega arith
+-- the highest of some bits is set
+unfoldable highest : Bool → List Bool → Bool
+highest bit [] = bit
+highest bit (next ∷ higher) = highest next higher
 
--- the highest bit is set, so a lost a makes r lost
-taken : (k : ℕ) (b : Bool) (r a : Float) (n : ℕ) → Lost a → 0 < n → n < 2 ^ suc k → eqb (n / 2) 0 ≡ b → Lost (rungs k b (times (odd n) r a) a (n / 2))
-unfolding rungs
-taken zero b r a n l p h e = rw (eq-eqb (n % 2) 1 (omega arith)) (mul-right r a l)
-taken (suc k) true r a n l p h e =
-    let z : n / 2 ≡ 0 = eqb-true (n / 2) 0 e in
-    rw (eq-eqb (n % 2) 1 (omega arith)) (mul-right r a l)
-taken (suc k) false r a n l p h e =
-    let z : n / 2 ≡ 0 → ⊥ = eqb-false (n / 2) 0 e in
-    taken k (eqb (n / 2 / 2) 0) (times (odd n) r a) (mul binary64 a a) (n / 2) (mul-left a a l) (omega (arith, pos-of-ne-zero z)) (half k n h) refl
+-- so r takes up a lost x
+taken : (r x : Float) (b : Bool) (bs : List Bool) → Lost x → T (highest b bs) → Lost (overBits r x (b ∷ bs))
+unfolding overBits highest
+taken r x true [] l t = mul-right r x l
+taken r x false [] l t = absurd t
+taken r x b (c ∷ cs) l t = taken (times b r x) (mul binary64 x x) c cs (mul-left x x l) t
 
-squares-check : (k : ℕ) (b : Bool) (r a : Float) (h : ℕ) → h < 2 ^ k → eqb h 0 ≡ b → rungsA k b r a h ≡ check (rungs k b r a h)
-unfolding rungs rungsA
-squares-check zero b r a h l e = refl
-squares-check (suc k) true r a h l e = refl
-squares-check (suc k) false r a h l e =
-    let a2 = mul binary64 a a in
-    let some : 0 < h = pos-of-ne-zero (eqb-false h 0 e) in
-    let less : h / 2 < 2 ^ k = let p : 2 ^ suc k ≡ 2 ^ k * 2 = pow-suc 2 k in omega arith in
-    let s = times (odd h) r a2 in
-    let o = check (rungs k (eqb (h / 2) 0) s a2 (h / 2)) in
-    next r _ o
-    (λ f. next a2 _ o
-    (λ g. squares-check k (eqb (h / 2) 0) s a2 (h / 2) less refl)
-    (λ w. check-lost (rungs k (eqb (h / 2) 0) s a2 (h / 2)) (taken k (eqb (h / 2) 0) r a2 h w some l refl)))
-    (λ w. check-lost (rungs k (eqb (h / 2) 0) s a2 (h / 2)) (rungs-lost k (eqb (h / 2) 0) s a2 (h / 2) (times-lost (odd h) r a2 w)))
+both-tests : (r x : Float) (b : Bool) (bs : List Bool) → T (highest b bs) → byBitsAndSquares r x (b ∷ bs) ≡ check (overBits r x (b ∷ bs))
+unfolding byBitsAndSquares overBits highest
+both-tests r x b [] t = refl
+both-tests r x b (c ∷ cs) t =
+    let x2 = mul binary64 x x in
+    let s = times b r x in
+    let o = check (overBits s x2 (c ∷ cs)) in
+    next s _ o
+    (λ _. next x2 _ o (λ _. both-tests s x2 c cs t) (λ l. check-lost (overBits s x2 (c ∷ cs)) (taken s x2 c cs l t)))
+    (λ l. check-lost (overBits s x2 (c ∷ cs)) (bits-lost s x2 (c ∷ cs) l))
 
-pub squares : (k : ℕ) (b : Bool) (r a : Float) (h : ℕ) → h < 2 ^ k → eqb h 0 ≡ b → rungsA k b r a h ≡ rungsC k b r a h
-squares k b r a h l e = squares-check k b r a h l e ∙ sym (rungs-check k b r a h)
+top : (k n : ℕ) → 2 ^ k ≤ n → n < 2 ^ suc k → T (highest (odd n) (lowest k (n / 2)))
+unfolding highest lowest
+top zero n l h = subst T (sym (eq-eqb (n % 2) 1 (omega arith))) tt
+top (suc k) n l h =
+    let p : 2 ^ suc k ≡ 2 ^ k * 2 = pow-suc 2 k in
+    let q : 2 ^ suc (suc k) ≡ 2 ^ suc k * 2 = pow-suc 2 (suc k) in
+    top k (n / 2) (omega arith) (omega arith)
+
+pub squares : (a x : Float) (n : ℕ) → byBitsAndSquares one x (bits n) ≡ byBits a one x (bits n)
+squares a x n = go (size n) (size-lt n) (size-reaches n)
+  where
+    go : (k : ℕ) → n < 2 ^ k → ((j : ℕ) → j < k → 2 ^ j ≤ n) → byBitsAndSquares one x (lowest k n) ≡ byBits a one x (lowest k n)
+    go zero l h = unfold byBitsAndSquares byBits lowest in refl
+    go (suc k) l h = unfold lowest in both-tests one x (odd n) (lowest k (n / 2)) (top k n (h k (omega arith)) l) ∙ sym (bits-check a one x (odd n ∷ lowest k (n / 2)) refl)

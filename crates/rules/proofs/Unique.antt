@@ -19,8 +19,6 @@ use Rattle.rules.proofs.exp.exponential.Kinds as exponential-kinds
 use Rattle.rules.proofs.exp.exponential.Reads as exponential
 use Rattle.rules.proofs.exp.raw_exponential.Kinds as raw-exponential-kinds
 use Rattle.rules.proofs.exp.raw_exponential.Reads as raw-exponential
-use Rattle.rules.proofs.formula.over.Kinds as over-kinds
-use Rattle.rules.proofs.formula.over.Reads as over
 
 pub power-one : One 0 power-kinds.ps power-kinds.r power.Post
 power-one κs a e x y p q = same-answer _ x y p q
@@ -48,6 +46,3 @@ raw-logarithm-one κs a e x y p q = p ∙ sym q
 
 pub raw-exponential-one : One 0 raw-exponential-kinds.ps raw-exponential-kinds.r raw-exponential.Post
 raw-exponential-one κs a e x y p q = p ∙ sym q
-
-pub over-one : One 0 over-kinds.ps over-kinds.r over.Post
-over-one κs a e x y p q = p ∙ sym q

@@ -1,6 +1,9 @@
 pub mod Power
+pub mod RawPower
 pub mod Units
 pub mod Root
 pub mod Log
+pub mod RawLog
 pub mod Exp
+pub mod RawExp
 pub mod Formula

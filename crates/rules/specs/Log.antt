@@ -1,45 +1,36 @@
--- The logarithm's rule, in the written order of rounded operations. Assumes nothing: these are definitions.
+-- To believe: the logarithm's rule (docs/SCOPE.md, the four written rules), in the written order of rounded operations. In order: its numbers, its steps from
+-- m and e on, how x is m * 2^e, and the rule. Assumes nothing: these are definitions.
 use Prim.Native.Nat.{ℕ, zero, suc, _-_, _*_, _^_}
 use mathlib.Core.Bool.{true, false, cond}
-use mathlib.Core.List.{List, [], _∷_}
+use mathlib.Core.List.{List, [], _∷_, foldl}
 use lib.Dec.{ltb}
 use lib.IntN.{ℤ, pos}
-use lib.Ieee.{Float, nan, inf, fin, binary64, minus, size, round, add, sub, mul, div, ofInt}
-use Rattle.common.specs.Outcome.{Outcome, value, refused, check, then}
+use lib.Ieee.{Float, nan, inf, fin, binary64, minus, size, round, ofInt}
+use Rattle.common.specs.Formula.{_⊕_, _⊖_, _⊗_, _⊘_}
+use Rattle.common.specs.Outcome.{Outcome, value, refused}
 use Rattle.rules.specs.Units.{inUnits}
 
 -- a whole number
-unfoldable pub number : ℕ → Float
-number n = ofInt binary64 (pos n)
+abbrev pub float : ℕ → Float
+float n = ofInt binary64 (pos n)
+
+abbrev pub number : ℕ → Outcome Float
+number n = value (float n)
 
 -- L = 0.6931471805599453, the decimal rounded once
 unfoldable pub L : Float
 L = round binary64 false 6931471805599453 (10 ^ 16)
 
--- 1/k, rounded
-unfoldable pub inverse : ℕ → Float
-inverse k = div binary64 (number 1) (number k)
+abbrev pub oddsFrom25 : List ℕ
+oddsFrom25 = 25 ∷ 23 ∷ 21 ∷ 19 ∷ 17 ∷ 15 ∷ 13 ∷ 11 ∷ 9 ∷ 7 ∷ 5 ∷ 3 ∷ 1 ∷ []
 
--- q becomes q*y + 1/k, for each k of the list in turn
-unfoldable pub series : Float → Float → List ℕ → Outcome Float
-series y q [] = value q
-series y q (k ∷ ks) = then (check (mul binary64 q y)) (λ p. then (check (add binary64 p (inverse k))) (λ q'. series y q' ks))
-
-abbrev pub odds : List ℕ
-odds = 25 ∷ 23 ∷ 21 ∷ 19 ∷ 17 ∷ 15 ∷ 13 ∷ 11 ∷ 9 ∷ 7 ∷ 5 ∷ 3 ∷ 1 ∷ []
-
--- ln (m * 2^e): z = (m-1)/(m+1), y = z*z, q from 1/27 on, and e*L + (2*z)*q. A step that is not finite is refused with 5
+-- ln (m * 2^e): q starts at 1/27, and for 25, 23, .. 1 becomes q*y + 1/that. A step that is not finite is refused with 5
 unfoldable pub lnSteps : Float → ℤ → Outcome Float
 lnSteps m e =
-    then (check (sub binary64 m (number 1))) (λ a.
-    then (check (add binary64 m (number 1))) (λ b.
-    then (check (div binary64 a b)) (λ z.
-    then (check (mul binary64 z z)) (λ y.
-    then (series y (inverse 27) odds) (λ q.
-    then (check (mul binary64 (ofInt binary64 e) L)) (λ t.
-    then (check (mul binary64 (number 2) z)) (λ w.
-    then (check (mul binary64 w q)) (λ v.
-    check (add binary64 t v)))))))))
+    let z = (value m ⊖ number 1) ⊘ (value m ⊕ number 1) in
+    let y = z ⊗ z in
+    let q = foldl (λ q k. q ⊗ y ⊕ number 1 ⊘ number k) (number 1 ⊘ number 27) oddsFrom25 in
+    value (ofInt binary64 e) ⊗ value L ⊕ number 2 ⊗ z ⊗ q
 
 -- x * 2^-1074 is m * 2^e with m = x / 2^k and e = k - 1074. With k one less than the count of x's binary digits m is from 1 up to 2;
 -- where that is 1.5 or more, k is the count, so that m is from 0.75 up to 1.5.
@@ -59,14 +50,3 @@ logarithmRule (inf s) = refused 1
 logarithmRule (fin s zero e) = refused 5
 logarithmRule (fin true (suc m) e) = refused 5
 logarithmRule (fin false (suc m) e) = lnOf (inUnits (fin false (suc m) e))
-
--- ---- the same steps with no check
-unfoldable pub rawSeries : Float → Float → List ℕ → Float
-rawSeries y q [] = q
-rawSeries y q (k ∷ ks) = rawSeries y (add binary64 (mul binary64 q y) (inverse k)) ks
-
-abbrev pub rawTail : Float → Float → Float
-rawTail z t = add binary64 t (mul binary64 (mul binary64 (number 2) z) (rawSeries (mul binary64 z z) (inverse 27) odds))
-
-unfoldable pub rawLn : Float → Float → Float
-rawLn m e = rawTail (div binary64 (sub binary64 m (number 1)) (add binary64 m (number 1))) (mul binary64 e L)

@@ -1,4 +1,5 @@
--- The root rule: the f64 nearest the exact root, judged by comparing squares of whole numbers. Assumes nothing: these are definitions.
+-- To believe: the root rule, the f64 nearest the exact root, judged by comparing squares of whole numbers, and below it what that means
+-- (proofs/Meaning has that it does). Assumes nothing: these are definitions.
 use Prim.Native.Nat.{ℕ, zero, suc, _+_, _-_, _*_, _/_, _^_, _<_, compare}
 use mathlib.Core.Bool.{Bool, true, false, cond}
 use lib.Dec.{T, leb}

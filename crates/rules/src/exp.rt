@@ -1,4 +1,4 @@
-// exp x by a series in what x leaves of a multiple of L.
+// exp x: with k the whole number nearest x/L and r = x - k*L, a series in r gives exp r, and that times 2^k is exp x. L is the f64 nearest ln 2.
 use common::Answer;
 use common::Refusal;
 use common::is_finite;
@@ -10,11 +10,12 @@ ghost use lib.Dec.{T};
 ghost use lib.Ieee.{binary64, ofInt};
 ghost use Rattle.common.specs.Outcome.{orNan};
 ghost use Rattle.common.specs.Answer.{paper};
-ghost use Rattle.rules.specs.Exp.{wholeSize, signed, twoTo, tame, rawExp, exponentialRule};
+ghost use Rattle.rules.specs.Exp.{wholeSize, withSign, twoTo, exponentialRule};
+ghost use Rattle.rules.specs.RawExp.{atMost1010, rawExp};
 
 // The whole number nearest to the size of q, ties to even.
 fn nearest_whole(q: f64) -> u64
-    requires { ⌜ T (tame q) ⌝ }
+    requires { ⌜ T (atMost1010 q) ⌝ }
     ensures { λ r. ⌜ r ≡ wholeSize q ⌝ }
 {
     let b = f64::to_bits(q) % 0x8000_0000_0000_0000;
@@ -39,7 +40,7 @@ fn nearest_whole(q: f64) -> u64
 // n or -n
 fn signed_number(below: bool, n: u64) -> f64
     requires { ⌜ n ≤ 1010 ⌝ }
-    ensures { λ r. ⌜ r ≡ ofInt binary64 (signed below n) ⌝ }
+    ensures { λ r. ⌜ r ≡ ofInt binary64 (withSign below n) ⌝ }
 {
     if below {
         if n == 0 { 0.0 } else { -(n as f64) }
@@ -51,7 +52,7 @@ fn signed_number(below: bool, n: u64) -> f64
 // 2^n or 2^-n
 fn two_to(below: bool, n: u64) -> f64
     requires { ⌜ n ≤ 1010 ⌝ }
-    ensures { λ r. ⌜ r ≡ twoTo (signed below n) ⌝ }
+    ensures { λ r. ⌜ r ≡ twoTo (withSign below n) ⌝ }
 {
     if below {
         f64::from_bits((1023 - n) * 0x10_0000_0000_0000)

@@ -2,7 +2,6 @@
 // A module has the name of the Rust method that its rule replaces. Each rule has a raw form for the layers above, in which a number
 // that is lost travels as itself.
 mod exp;
-mod formula;
 mod ln;
 mod parts;
 mod powi;
@@ -10,7 +9,6 @@ mod sqrt;
 
 pub use exp::exponential;
 pub use exp::raw_exponential;
-pub use formula::over;
 pub use ln::logarithm;
 pub use ln::raw_logarithm;
 pub use powi::magnitude;

@@ -1,4 +1,4 @@
-// ln x by a series in (m-1)/(m+1), with x = m * 2^e.
+// ln x: with x = m * 2^e and m from 0.75 up to 1.5, a series in (m-1)/(m+1) gives ln m, and e*L more is ln x. L is the f64 nearest ln 2.
 use crate::parts::unpack;
 use common::Answer;
 use common::Refusal;
@@ -10,7 +10,8 @@ ghost use Prim.Native.Nat.{_^_, _<_};
 ghost use lib.Ieee.{binary64, ofInt, minus};
 ghost use Rattle.common.specs.Outcome.{orNan};
 ghost use Rattle.common.specs.Answer.{paper};
-ghost use Rattle.rules.specs.Log.{rawLn, logarithmRule};
+ghost use Rattle.rules.specs.Log.{logarithmRule};
+ghost use Rattle.rules.specs.RawLog.{rawLn};
 
 // ln (m * 2^e), the steps with no check.
 fn ln_steps(m: f64, e: f64) -> f64

@@ -1,4 +1,4 @@
-// a^n by the bits of |n|, the lowest first.
+// a^n by the bits of |n|, the lowest first. The raw form has no check: a lost r is the result.
 use common::Answer;
 use common::Refusal;
 use common::is_finite;
@@ -7,7 +7,8 @@ ghost use mathlib.Core.Path.{_≡_};
 ghost use Prim.Native.Nat.{ℕ, suc, _<_, _^_};
 ghost use lib.IntN.{natAbs};
 ghost use Rattle.common.specs.Answer.{paper};
-ghost use Rattle.rules.specs.Power.{ladder, powerRule, rawPower};
+ghost use Rattle.rules.specs.Power.{powerRule};
+ghost use Rattle.rules.specs.RawPower.{rawByBits, rawPower};
 
 pub fn magnitude(n: i32) -> u32
     ensures { λ r. ⌜ r ≡ natAbs n ⌝ }
@@ -17,7 +18,7 @@ pub fn magnitude(n: i32) -> u32
 
 // r times a to the n: where n's lowest bit is set r becomes r*a, and while higher bits remain a becomes a*a.
 fn by_bits(r: f64, a: f64, n: u32) -> f64
-    ensures { λ out. ⌜ ((k : ℕ) → n < 2 ^ suc k → out ≡ ladder k r a n) ⌝ }
+    ensures { λ out. ⌜ ((k : ℕ) → n < 2 ^ suc k → out ≡ rawByBits k r a n) ⌝ }
 {
     let s = if n % 2 == 1 { r * a } else { r };
     let h = n / 2;

@@ -2,14 +2,14 @@
 use mathlib.Core.Path.{_≡_, refl, sym, ap, _∙_}
 use Rattle.common.specs.Outcome.{Outcome, value, refused}
 use Rattle.common.proofs.Same.{One, same, same-answer, kindOf, kind-number}
-use Rattle.volume.specs.Found.{State, foundIn, whenceIn}
-use Rattle.volume.specs.declared.Origin.{Origin}
-use Rattle.volume.specs.declared.Whence.{Whence}
-use Rattle.volume.specs.declared.Whence.the-variants as whence
-use Rattle.volume.specs.declared.Found.{Found}
-use Rattle.volume.specs.declared.Found.the-variants.{At, Refused}
-use Rattle.volume.proofs.region3_v_pT.origin_byte.Kinds as origin-byte-kinds
-use Rattle.volume.proofs.region3_v_pT.origin_byte.Reads as origin-byte
+use Rattle.volume.specs.Volumes.{State, paperState, paperOrigin}
+use Rattle.record.specs.declared.Origin.{Origin}
+use Rattle.volume.specs.declared.OriginAnswer.{OriginAnswer}
+use Rattle.volume.specs.declared.OriginAnswer.the-variants as origins
+use Rattle.volume.specs.declared.StateAnswer.{StateAnswer}
+use Rattle.volume.specs.declared.StateAnswer.the-variants as states
+use Rattle.volume.proofs.region3_v_pT.origin_at.Kinds as origin-at-kinds
+use Rattle.volume.proofs.region3_v_pT.origin_at.Reads as origin-at
 use Rattle.volume.proofs.region3_v_pT.origin_pT.Kinds as origin-pT-kinds
 use Rattle.volume.proofs.region3_v_pT.origin_pT.Reads as origin-pT
 use Rattle.volume.proofs.region3_v_pT.found_by.Kinds as found-by-kinds
@@ -23,38 +23,41 @@ use Rattle.volume.proofs.region3_v_pT.pT2v_3subreg.Reads as pT2v-3subre
 use Rattle.volume.proofs.region3_v_pT.pT2v_sat_reg3.Kinds as pT2v-sat-reg3-kinds
 use Rattle.volume.proofs.region3_v_pT.pT2v_sat_reg3.Reads as pT2v-sat-reg3
 
-foundOf : Outcome State → Found
-foundOf (value s) = At (s .origin) (s .v) (s .d)
-foundOf (refused k) = Refused (kindOf k)
+stateAnswerOf : Outcome State → StateAnswer
+stateAnswerOf (value s) = states.Value (s .origin) (s .v) (s .d)
+stateAnswerOf (refused k) = states.Refused (kindOf k)
 
-found-back : (f : Found) → foundOf (foundIn f) ≡ f
-unfolding foundOf
-found-back (At o v d) = refl
-found-back (Refused k) = ap Refused (kind-number k)
+state-back : (f : StateAnswer) → stateAnswerOf (paperState f) ≡ f
+unfolding stateAnswerOf
+state-back (states.Value o v d) = refl
+state-back (states.Refused k) = ap states.Refused (kind-number k)
 
-pub same-found : (o : Outcome State) (f g : Found) → foundIn f ≡ o → foundIn g ≡ o → f ≡ g
-same-found = same foundIn foundOf found-back
+pub same-state : (o : Outcome State) (f g : StateAnswer) → paperState f ≡ o → paperState g ≡ o → f ≡ g
+same-state = same paperState stateAnswerOf state-back
 
-whenceOf : Outcome Origin → Whence
-whenceOf (value o) = whence.From o
-whenceOf (refused k) = whence.Refused (kindOf k)
+originAnswerOf : Outcome Origin → OriginAnswer
+originAnswerOf (value o) = origins.Value o
+originAnswerOf (refused k) = origins.Refused (kindOf k)
 
-whence-back : (w : Whence) → whenceOf (whenceIn w) ≡ w
-unfolding whenceOf
-whence-back (whence.From o) = refl
-whence-back (whence.Refused k) = ap whence.Refused (kind-number k)
+origin-back : (w : OriginAnswer) → originAnswerOf (paperOrigin w) ≡ w
+unfolding originAnswerOf
+origin-back (origins.Value o) = refl
+origin-back (origins.Refused k) = ap origins.Refused (kind-number k)
 
-pub origin-byte-one : One 0 origin-byte-kinds.ps origin-byte-kinds.r origin-byte.Post
-origin-byte-one κs a e x y p q = p ∙ sym q
+pub same-origin : (o : Outcome Origin) (v w : OriginAnswer) → paperOrigin v ≡ o → paperOrigin w ≡ o → v ≡ w
+same-origin = same paperOrigin originAnswerOf origin-back
+
+pub origin-at-one : One 0 origin-at-kinds.ps origin-at-kinds.r origin-at.Post
+origin-at-one κs a e x y p q = same-origin _ x y p q
 
 pub origin-pT-one : One 0 origin-pT-kinds.ps origin-pT-kinds.r origin-pT.Post
-origin-pT-one κs a e x y p q = same whenceIn whenceOf whence-back _ x y p q
+origin-pT-one κs a e x y p q = same-origin _ x y p q
 
 pub found-by-one : One 0 found-by-kinds.ps found-by-kinds.r found-by.Post
-found-by-one κs a e x y p q = same-found _ x y p q
+found-by-one κs a e x y p q = same-state _ x y p q
 
 pub found-pT-one : One 0 found-pT-kinds.ps found-pT-kinds.r found-pT.Post
-found-pT-one κs a e x y p q = same-found _ x y p q
+found-pT-one κs a e x y p q = same-state _ x y p q
 
 pub pT2v-reg3-one : One 0 pT2v-reg3-kinds.ps pT2v-reg3-kinds.r pT2v-reg3.Post
 pT2v-reg3-one κs a e x y p q = same-answer _ x y p q

@@ -1,15 +1,16 @@
 -- The volume equations of S05rev: table 4 and equations 4 and 5, in the Rust's order of operations (r3/region3_v_subregion_pT.rs).
 -- Assumes nothing: these are definitions.
+use Rattle.common.specs.Formula.{_⊖_, _⊗_, _⊘_}
 use mathlib.Core.List.{List}
 use lib.IntN.{pos}
 use lib.Ieee.{Float}
 use Rattle.common.specs.Outcome.{Outcome, value}
 use Rattle.common.specs.Decimal.{decimal, whole}
-use Rattle.rules.specs.Formula.{_⊖_, _⊗_, _⊘_, powerOf, rootOf, exponentialOf}
+use Rattle.rules.specs.Formula.{powerOf, rootOf, exponentialOf}
 use Rattle.algo.specs.Table.{Row}
-use Rattle.state.specs.Sum.{sumOf}
-use Rattle.letter.specs.declared.Letter.{Letter}
-use Rattle.letter.specs.declared.Letter.the-variants as letters
+use Rattle.algo.specs.Table.{sumOf}
+use Rattle.subregion.specs.declared.Letter.{Letter}
+use Rattle.subregion.specs.declared.Letter.the-variants as letters
 use Rattle.tables.specs.Summed.{summed}
 use Rattle.volume.specs.declared.Equation.{Equation}
 use Rattle.volume.specs.declared.Equation.the-variants.{Plain, RootP, FourthRootT, Fourth, RootPFourth, Exponential}

@@ -1,2 +1,2 @@
 pub mod Equation
-pub mod Found
+pub mod Volumes

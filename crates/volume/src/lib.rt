@@ -1,13 +1,13 @@
 // The volume at (p,T): S05rev. A file has the name of the Rust's.
 use common::Refusal;
-use letter::Letter;
+use record::Origin;
 
 mod region3_v_pT;
 mod region3_v_subregion_pT;
 
 pub use region3_v_pT::found_by;
 pub use region3_v_pT::found_pT;
-pub use region3_v_pT::origin_byte;
+pub use region3_v_pT::origin_at;
 pub use region3_v_pT::origin_pT;
 pub use region3_v_pT::pT2v_3subreg;
 pub use region3_v_pT::pT2v_reg3;
@@ -29,21 +29,15 @@ pub enum Equation {
     Exponential(f64, f64, f64, f64, f64),
 }
 
-// Where a volume comes from: a letter's equation, or the answer at the critical point, which has no letter.
-pub enum Origin {
-    Subregion(Letter),
-    Critical,
-}
-
 // Where a (p,T) call takes its volume from.
-pub enum Whence {
-    From(Origin),
+pub enum OriginAnswer {
+    Value(Origin),
     Refused(Refusal),
 }
 
 // What (p,T) finds: the origin of the volume, the volume and the density.
-pub enum Found {
-    At(Origin, f64, f64),
+pub enum StateAnswer {
+    Value(Origin, f64, f64),
     Refused(Refusal),
 }
 

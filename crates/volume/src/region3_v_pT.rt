@@ -1,8 +1,7 @@
 // The volume at (p,T) by the subregion it lies in, and on the saturation line.
-use crate::Found;
-use crate::Origin;
+use crate::OriginAnswer;
 use crate::Phase;
-use crate::Whence;
+use crate::StateAnswer;
 use crate::region3_v_subregion_pT::raw_volume;
 use boundary::letter_at;
 use common::Answer;
@@ -13,6 +12,7 @@ use common::P_FROM;
 use common::P_MAX4;
 use common::P_TOL;
 use common::PC_WATER;
+use common::Refusal;
 use common::T_FROM;
 use common::T_MAX4;
 use common::T_TOL;
@@ -20,102 +20,115 @@ use common::TC_WATER;
 use common::Verdict;
 use common::check_pT;
 use common::check_pair;
-use letter::Choice;
-use letter::Letter;
-use letter::ascii;
-use state::density;
-use state::settle_v;
+use common::is_finite;
+use record::Origin;
+use record::density;
+use record::settle_v;
+use subregion::Letter;
+use subregion::LetterAnswer;
 ghost use mathlib.Core.Path.{_≡_};
-ghost use lib.Ieee.{binary64, sub, lt};
-ghost use Rattle.common.specs.Outcome.{value, check};
-ghost use Rattle.common.specs.Constant.{P-FROM, P-TO, T-FROM, T-TO};
-ghost use Rattle.common.specs.Range.{pairRule};
+ghost use lib.Ieee.{lt};
+ghost use Rattle.common.specs.Outcome.{check};
 ghost use Rattle.common.specs.Answer.{paper};
-ghost use Rattle.volume.specs.Found.{foundIn, whenceIn, byteOf, stateOf, sizeOf, atCritical, originAt, originRule, stateBy, foundRule, pT2v-reg3Rule, pT2v-3subregRule, saturatedLetter, pT2v-sat-reg3Rule};
-
-// The byte of an origin in a column: a letter's, or 0 at the critical point.
-pub fn origin_byte(o: Origin) -> u8
-    ensures { λ r. ⌜ r ≡ byteOf o ⌝ }
-{
-    match o {
-        Origin::Subregion(l) => ascii(l),
-        Origin::Critical => 0,
-    }
-}
+ghost use Rattle.volume.specs.Volumes.{paperState, paperOrigin, stateOf, sizeOf, letteredAt, originAt, originRule, stateBy, stateAt, volumeIn, foundRule, pT2v-reg3Rule, pT2v-3subregRule, saturatedLetter, pT2v-sat-reg3Rule};
 
 // A volume with its density.
-fn found(o: Origin, v: f64) -> Found
-    ensures { λ r. ⌜ foundIn r ≡ stateOf o (check v) ⌝ }
+fn found(o: Origin, v: f64) -> StateAnswer
+    ensures { λ r. ⌜ paperState r ≡ stateOf o (check v) ⌝ }
 {
     match density(v) {
-        Answer::Value(d) => Found::At(o, v, d),
-        Answer::Refused(k) => Found::Refused(k),
+        Answer::Value(d) => StateAnswer::Value(o, v, d),
+        Answer::Refused(k) => StateAnswer::Refused(k),
     }
 }
 
-// Whether x lies strictly within tol of centre.
-fn is_near(x: f64, centre: f64, tol: f64) -> bool
-    ensures { λ r. ⌜ r ≡ lt (sizeOf (sub binary64 x centre)) tol ⌝ }
+// Whether a distance is strictly less than tol, whatever its sign.
+fn is_small(y: f64, tol: f64) -> bool
+    ensures { λ r. ⌜ r ≡ lt (sizeOf y) tol ⌝ }
 {
-    let y = x - centre;
     if y < 0.0 {
         return -y < tol;
     }
     y < tol
 }
 
-// Whether T and p are near the critical point. p and t have passed the box, so no difference is lost.
-fn at_critical(p: f64, t: f64) -> bool
-    requires { ⌜ pairRule P-FROM P-TO p T-FROM T-TO t ≡ value tt ⌝ }
-    ensures { λ r. ⌜ value r ≡ atCritical p t ⌝ }
+// The letter as an origin.
+fn lettered(p: MPa, t: Kelvin) -> OriginAnswer
+    ensures { λ r. ⌜ paperOrigin r ≡ letteredAt (p .0) (t .0) ⌝ }
 {
-    if is_near(t, TC_WATER, T_TOL) {
-        return is_near(p, PC_WATER, P_TOL);
-    }
-    false
-}
-
-// The critical point, or the letter. p and t have passed the box.
-fn origin_at(p: MPa, t: Kelvin) -> Whence
-    requires { ⌜ pairRule P-FROM P-TO (p .0) T-FROM T-TO (t .0) ≡ value tt ⌝ }
-    ensures { λ r. ⌜ whenceIn r ≡ originAt (p .0) (t .0) ⌝ }
-{
-    if at_critical(p.0, t.0) {
-        return Whence::From(Origin::Critical);
-    }
-    match letter_at(p.0, t.0) {
-        Choice::Taken(l) => Whence::From(Origin::Subregion(l)),
-        Choice::Refused(k) => Whence::Refused(k),
+    match letter_at(p, t) {
+        LetterAnswer::Value(l) => OriginAnswer::Value(Origin::Subregion(l)),
+        LetterAnswer::Refused(k) => OriginAnswer::Refused(k),
     }
 }
 
-// Where the volume at (p,T) comes from.
-pub fn origin_pT(p: MPa, t: Kelvin) -> Whence
-    ensures { λ r. ⌜ whenceIn r ≡ originRule (p .0) (t .0) ⌝ }
+// The critical point, or the letter, at any p and t: no box is looked at, and a distance from the critical point that is lost is refused.
+pub fn origin_at(p: MPa, t: Kelvin) -> OriginAnswer
+    ensures { λ r. ⌜ paperOrigin r ≡ originAt (p .0) (t .0) ⌝ }
+{
+    let dt = t.0 - TC_WATER;
+    if is_finite(dt) {
+        if is_small(dt, T_TOL) {
+            let dp = p.0 - PC_WATER;
+            if is_finite(dp) {
+                if is_small(dp, P_TOL) {
+                    return OriginAnswer::Value(Origin::Critical);
+                }
+                return lettered(p, t);
+            }
+            return OriginAnswer::Refused(Refusal::Step);
+        }
+        return lettered(p, t);
+    }
+    OriginAnswer::Refused(Refusal::Step)
+}
+
+// Where a (p,T) record and a row of the column run take their volume from: the box, once, then the origin.
+pub fn origin_pT(p: MPa, t: Kelvin) -> OriginAnswer
+    ensures { λ r. ⌜ paperOrigin r ≡ originRule (p .0) (t .0) ⌝ }
 {
     match check_pT(p, t) {
         Verdict::Accepted => origin_at(p, t),
-        Verdict::Refused(k) => Whence::Refused(k),
+        Verdict::Refused(k) => OriginAnswer::Refused(k),
     }
 }
 
-// The volume and its density by their origin.
-pub fn found_by(o: Origin, p: f64, t: f64) -> Found
-    ensures { λ r. ⌜ foundIn r ≡ stateBy o p t ⌝ }
+// The volume and its density by their origin, at any p and t.
+pub fn found_by(o: Origin, p: MPa, t: Kelvin) -> StateAnswer
+    ensures { λ r. ⌜ paperState r ≡ stateBy o (p .0) (t .0) ⌝ }
 {
     match o {
-        Origin::Subregion(l) => found(Origin::Subregion(l), raw_volume(l, p, t)),
+        Origin::Subregion(l) => found(Origin::Subregion(l), raw_volume(l, p.0, t.0)),
         Origin::Critical => found(Origin::Critical, 1.0 / DC_WATER),
     }
 }
 
-// The volume, its density, and the letter by whose equation it was found.
-pub fn found_pT(p: MPa, t: Kelvin) -> Found
-    ensures { λ r. ⌜ foundIn r ≡ foundRule (p .0) (t .0) ⌝ }
+// The same from the origin at p and t, with no box.
+fn found_at(p: MPa, t: Kelvin) -> StateAnswer
+    ensures { λ r. ⌜ paperState r ≡ stateAt (p .0) (t .0) ⌝ }
+{
+    match origin_at(p, t) {
+        OriginAnswer::Value(o) => found_by(o, p, t),
+        OriginAnswer::Refused(k) => StateAnswer::Refused(k),
+    }
+}
+
+// What a (p,T) record is worked from: the volume, its density, and the letter by whose equation it was found.
+pub fn found_pT(p: MPa, t: Kelvin) -> StateAnswer
+    ensures { λ r. ⌜ paperState r ≡ foundRule (p .0) (t .0) ⌝ }
 {
     match origin_pT(p, t) {
-        Whence::From(o) => found_by(o, p.0, t.0),
-        Whence::Refused(k) => Found::Refused(k),
+        OriginAnswer::Value(o) => found_by(o, p, t),
+        OriginAnswer::Refused(k) => StateAnswer::Refused(k),
+    }
+}
+
+fn volume_in(f: StateAnswer) -> Answer
+    ensures { λ r. ⌜ paper r ≡ volumeIn (paperState f) ⌝ }
+{
+    match f {
+        StateAnswer::Value(_, v, _) => Answer::Value(v),
+        StateAnswer::Refused(k) => Answer::Refused(k),
     }
 }
 
@@ -123,9 +136,9 @@ pub fn found_pT(p: MPa, t: Kelvin) -> Found
 pub fn pT2v_reg3(p: MPa, t: Kelvin) -> Answer
     ensures { λ r. ⌜ paper r ≡ pT2v-reg3Rule (p .0) (t .0) ⌝ }
 {
-    match found_pT(p, t) {
-        Found::At(_, v, _) => Answer::Value(v),
-        Found::Refused(k) => Answer::Refused(k),
+    match check_pT(p, t) {
+        Verdict::Accepted => volume_in(found_at(p, t)),
+        Verdict::Refused(k) => Answer::Refused(k),
     }
 }
 

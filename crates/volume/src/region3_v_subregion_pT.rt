@@ -2,10 +2,10 @@
 // The steps are raw: a number that is lost travels as itself to the end.
 use crate::Equation;
 use common::or_nan;
-use letter::Letter;
 use rules::power;
 use rules::raw_exponential;
 use rules::raw_root;
+use subregion::Letter;
 use tables::letter_sum;
 ghost use mathlib.Core.Path.{_≡_};
 ghost use Rattle.common.specs.Outcome.{check};

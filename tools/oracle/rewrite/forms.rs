@@ -8,19 +8,19 @@ use crate::tokens::{after, before, cut, join, Kind, Token};
 pub enum Form {
     /// The untouched crate: f64 and std's own functions.
     Plain,
-    /// The same on f64, with document 01's four rules in place of std's functions.
+    /// The same on f64, with docs/SCOPE.md's four rules in place of std's functions.
     Ruled,
     /// The same as ruled on a number that keeps the first refusal.
     Checked,
 }
 
-/// The methods of f64 that document 01's rules replace.
+/// The methods of f64 that docs/SCOPE.md's rules replace.
 const METHODS: [&str; 5] = ["powi", "powf", "ln", "exp", "sqrt"];
 
 /// Private functions of the crate that the oracle has to call by themselves.
 const OPENED: [&str; 1] = ["p2h_3ab"];
 
-/// The p that document 01 wants range-tested wherever a formula works it out.
+/// The p that docs/SCOPE.md wants range-tested wherever a formula works it out.
 const TESTED: &str = "Td2p_reg3";
 
 impl Form {

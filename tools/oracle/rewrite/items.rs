@@ -1,5 +1,5 @@
 //! Splits a file's tokens into its items (uses, constants, functions) and keeps the wanted ones.
-//! Of region3.rs only functions stay that do not call what document 01 leaves behind.
+//! Of region3.rs only functions stay that do not call what docs/SCOPE.md leaves behind.
 
 use crate::tokens::{after, Kind, Token};
 

@@ -1,5 +1,5 @@
 //! Document 01's entry points over the checked form: ranges, order and refusals.
-//! Leaf functions are the Rust's own. What is put together from them follows document 01.
+//! Leaf functions are the Rust's own. What is put together from them follows docs/SCOPE.md.
 
 use crate::forms::checked::common::{DC_WATER, PC_WATER, P_TOL, TC_WATER, T_TOL};
 use crate::forms::checked::{r3, r4};

@@ -1,5 +1,5 @@
 //! The Rust's region 3 and saturation line in three forms, as build.rs wrote them.
-//! `plain` is the untouched crate, `ruled` has document 01's rules, `checked` keeps refusals too.
+//! `plain` is the untouched crate, `ruled` has docs/SCOPE.md's rules, `checked` keeps refusals too.
 
 #[allow(warnings)]
 pub mod plain {

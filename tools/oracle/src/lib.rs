@@ -1,4 +1,4 @@
-//! The oracle's parts: three forms of the Rust, document 01's entry points, rows and comparisons.
+//! The oracle's parts: three forms of the Rust, docs/SCOPE.md's entry points, rows and comparisons.
 //! Names keep the Rust's and the documents' letters, so upper case stands in snake case too.
 #![allow(non_snake_case)]
 

@@ -8,9 +8,9 @@ use std::io::{self, BufWriter, Read, Write};
 use std::process::ExitCode;
 
 const HELP: &str = "\
-oracle answers                 rows of 24 bytes in, document 01's answers of 88 bytes out
+oracle answers                 rows of 24 bytes in, docs/SCOPE.md's answers of 88 bytes out
 oracle plain                   the same rows answered by the untouched crate, nothing refused
-oracle ruled                   the same, with document 01's four rules in place of std's functions
+oracle ruled                   the same, with docs/SCOPE.md's four rules in place of std's functions
 oracle lines                   rows of 16 bytes in, what the program `letters` must write out
 oracle rows --rows N --seed S [--entries LIST]
                                writes N rows

@@ -1,4 +1,4 @@
-//! Document 01's call domain and refusal numbers.
+//! docs/SCOPE.md's call domain and refusal numbers.
 //! Both ends of a range count as inside.
 
 pub type Range = (f64, f64);
@@ -24,7 +24,7 @@ pub const STATE: u8 = 4;
 pub const STEP: u8 = 5;
 pub const PROPERTY: u8 = 6;
 
-/// No refusal of document 01: the row names no entry, boundary, letter or phase.
+/// No refusal of docs/SCOPE.md: the row names no entry, boundary, letter or phase.
 pub const NO_ENTRY: u8 = 255;
 
 pub fn outside(x: f64, range: Range) -> bool {

@@ -1,9 +1,9 @@
 //! Document 01's written rules for the four functions, each as a public call with its refusals.
-//! Every operation below is one f64 operation, in the order that document 01 writes down.
+//! Every operation below is one f64 operation, in the order that docs/SCOPE.md writes down.
 
 use crate::ranges::{outside, EXPONENT, FIRST, NOT_FINITE, POWER, SECOND, STEP};
 
-/// As document 01 writes it.
+/// As docs/SCOPE.md writes it.
 #[allow(clippy::approx_constant)]
 pub const L: f64 = 0.6931471805599453;
 
@@ -94,7 +94,7 @@ pub fn powf(x: f64, exponent: f64) -> Result<f64, u8> {
         0.5 => root(x),
         0.25 => root(root(x)?),
         4.0 => power(x, 4),
-        other => panic!("document 01 has no rule for the exponent {other}"),
+        other => panic!("docs/SCOPE.md has no rule for the exponent {other}"),
     }
 }
 

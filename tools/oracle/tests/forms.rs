@@ -15,7 +15,7 @@ use oracle::make::{all_entries, Rows};
 use oracle::row::{is_property, Row};
 use oracle::{entries, num};
 
-/// Wherever document 01's entry point accepts, the Rust's own composition in region3.rs with the
+/// Wherever docs/SCOPE.md's entry point accepts, the Rust's own composition in region3.rs with the
 /// rules put in has the same bits. At the critical point the Rust has a letter all the same.
 #[test]
 fn checked_is_ruled() {

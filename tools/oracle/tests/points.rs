@@ -1,5 +1,5 @@
 //! Document 01's points to check and its order of refusals, on the oracle's entry points.
-//! Beside them the easy mistakes that document 01 names.
+//! Beside them the easy mistakes that docs/SCOPE.md names.
 
 #![allow(non_snake_case)]
 

@@ -1,4 +1,4 @@
-//! The four rules against second transcriptions of document 01 that share no step with src/rules.rs,
+//! The four rules against second transcriptions of docs/SCOPE.md that share no step with src/rules.rs,
 //! and the root against whole numbers alone.
 
 use oracle::make::Rows;

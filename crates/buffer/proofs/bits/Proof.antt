@@ -22,8 +22,5 @@ returns c = ap (toBits binary64) (sym (differs-from-itself (c .before .args .x) 
 float-to-bits-result : tie.Need-float-to-bits-result
 float-to-bits-result c = number (c .before .args .x) (c .if1 .left)
 
-returns-2 : tie.Need-returns-2
-returns-2 c = search needs
-
 pub bits-spec : {M : Type 1} → statement M
-bits-spec = tie.close (tie.spec float-to-bits-result returns returns-2)
+bits-spec = tie.close (tie.spec float-to-bits-result returns (λ c. search needs))

@@ -13,9 +13,6 @@ use Rattle.buffer.proofs.Laws.{nan-read}
 use Rattle.buffer.proofs.float_at.Statement.{statement}
 use Rattle.buffer.proofs.float_at.Tie as tie
 
-lies-requires : tie.Need-lies-requires
-lies-requires c κs = search needs
-
 word-at-requires : tie.Need-word-at-requires
 word-at-requires c κs = leb-true _ _ (cc)
 
@@ -46,4 +43,4 @@ returns-3 c =
 pub float-at-spec : {M : Type 1} → statement M
 float-at-spec =
     tie.close
-    (tie.spec lies-requires word-at-requires returns float-from-bits-result returns-2 returns-3)
+    (tie.spec (λ c κs. search needs) word-at-requires returns float-from-bits-result returns-2 returns-3)

@@ -12,14 +12,8 @@ use Rattle.buffer.specs.Bytes.{signed}
 use Rattle.buffer.proofs.int_at.Statement.{statement}
 use Rattle.buffer.proofs.int_at.Tie as tie
 
-lies-requires : tie.Need-lies-requires
-lies-requires c κs = search needs
-
 half-at-requires : tie.Need-half-at-requires
 half-at-requires c κs = leb-true _ _ (cc)
-
-with-sign-requires : tie.Need-with-sign-requires
-with-sign-requires c κs = search needs
 
 returns : tie.Need-returns
 returns c =
@@ -35,4 +29,4 @@ returns-2 c =
 
 pub int-at-spec : {M : Type 1} → statement M
 int-at-spec =
-    tie.close (tie.spec lies-requires half-at-requires with-sign-requires returns returns-2)
+    tie.close (tie.spec (λ c κs. search needs) half-at-requires (λ c κs. search needs) returns returns-2)

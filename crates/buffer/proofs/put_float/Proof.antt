@@ -6,19 +6,10 @@ use borrow.Author.Needs.{needs}
 use Rattle.buffer.proofs.put_float.Statement.{statement}
 use Rattle.buffer.proofs.put_float.Tie as tie
 
-bits-requires : tie.Need-bits-requires
-bits-requires c κs = search needs
-
-put-word-requires : tie.Need-put-word-requires
-put-word-requires c κs = search needs
-
-same-length : tie.Need-same-length
-same-length c = search needs
-
 returns : tie.Need-returns
 returns c =
     let a = c .before .before .before .before .before .before .args in
     c .before .before .put-word .ensures ∙ ap (λ (n : ℕ). placed (a .out .now) (a .at) (eight n)) (c .before .before .before .bits .ensures)
 
 pub put-float-spec : {M : Type 1} → statement M
-put-float-spec = tie.close (tie.spec bits-requires put-word-requires same-length returns)
+put-float-spec = tie.close (tie.spec (λ c κs. search needs) (λ c κs. search needs) (λ c. search needs) returns)

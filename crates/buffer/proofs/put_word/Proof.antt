@@ -9,14 +9,8 @@ use borrow.Author.Needs.{needs}
 use Rattle.buffer.proofs.put_word.Statement.{statement}
 use Rattle.buffer.proofs.put_word.Tie as tie
 
-lies-requires : tie.Need-lies-requires
-lies-requires c κs = search needs
-
 put-eight-requires : tie.Need-put-eight-requires
 put-eight-requires c κs = leb-true _ _ (cc)
-
-same-length : tie.Need-same-length
-same-length c = search needs
 
 returns : tie.Need-returns
 returns c =
@@ -31,4 +25,4 @@ returns-2 c =
     rw h
 
 pub put-word-spec : {M : Type 1} → statement M
-put-word-spec = tie.close (tie.spec lies-requires put-eight-requires same-length returns returns-2)
+put-word-spec = tie.close (tie.spec (λ c κs. search needs) put-eight-requires (λ c. search needs) returns returns-2)

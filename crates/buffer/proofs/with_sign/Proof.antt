@@ -23,12 +23,6 @@ module _ (n : ℕ) (from : 2 ^ 31 ≤ n) (to : n < 2 ^ 32) where
   less-wide : SFits w64 (negsuc (4294967296 - suc n))
   less-wide = record { sfits = omega arith }
 
-cast-result : tie.Need-cast-result
-cast-result c = search needs
-
-cast-result-2 : tie.Need-cast-result-2
-cast-result-2 c = search needs
-
 sub-result : tie.Need-sub-result
 sub-result c =
     let n = c .before .args .n in
@@ -55,4 +49,4 @@ returns-2 c =
 
 pub with-sign-spec : {M : Type 1} → statement M
 with-sign-spec =
-    tie.close (tie.spec cast-result cast-result-2 sub-result cast-result-3 returns returns-2)
+    tie.close (tie.spec (λ c. search needs) (λ c. search needs) sub-result cast-result-3 returns returns-2)

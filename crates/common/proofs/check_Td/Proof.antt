@@ -5,12 +5,9 @@ use borrow.Author.Needs.{needs}
 use Rattle.common.proofs.check_Td.Statement.{statement}
 use Rattle.common.proofs.check_Td.Tie as tie
 
-check-pair-requires : tie.Need-check-pair-requires
-check-pair-requires c κs = search needs
-
 returns : tie.Need-returns
 unfolding ofBits decimal whole scaled
 returns c = c .check-pair .ensures
 
 pub check-Td-spec : {M : Type 1} → statement M
-check-Td-spec = tie.close (tie.spec check-pair-requires returns)
+check-Td-spec = tie.close (tie.spec (λ c κs. search needs) returns)

@@ -5,12 +5,9 @@ use borrow.Author.Needs.{needs}
 use Rattle.common.proofs.check_hs.Statement.{statement}
 use Rattle.common.proofs.check_hs.Tie as tie
 
-check-pair-requires : tie.Need-check-pair-requires
-check-pair-requires c κs = search needs
-
 returns : tie.Need-returns
 unfolding ofBits decimal whole scaled
 returns c = c .check-pair .ensures
 
 pub check-hs-spec : {M : Type 1} → statement M
-check-hs-spec = tie.close (tie.spec check-pair-requires returns)
+check-hs-spec = tie.close (tie.spec (λ c κs. search needs) returns)

@@ -7,12 +7,6 @@ use Rattle.common.specs.Range.{within}
 use Rattle.common.proofs.check_only.Statement.{statement}
 use Rattle.common.proofs.check_only.Tie as tie
 
-is-finite-requires : tie.Need-is-finite-requires
-is-finite-requires c κs = search needs
-
-ranged-requires : tie.Need-ranged-requires
-ranged-requires c κs = search needs
-
 returns : tie.Need-returns
 returns c =
     let a = c .before .before .before .before .args in
@@ -33,4 +27,4 @@ returns-3 c =
     rw f
 
 pub check-only-spec : {M : Type 1} → statement M
-check-only-spec = tie.close (tie.spec is-finite-requires ranged-requires returns returns-2 returns-3)
+check-only-spec = tie.close (tie.spec (λ c κs. search needs) (λ c κs. search needs) returns returns-2 returns-3)

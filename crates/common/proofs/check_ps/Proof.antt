@@ -5,12 +5,9 @@ use borrow.Author.Needs.{needs}
 use Rattle.common.proofs.check_ps.Statement.{statement}
 use Rattle.common.proofs.check_ps.Tie as tie
 
-check-pair-requires : tie.Need-check-pair-requires
-check-pair-requires c κs = search needs
-
 returns : tie.Need-returns
 unfolding ofBits decimal whole scaled
 returns c = c .check-pair .ensures
 
 pub check-ps-spec : {M : Type 1} → statement M
-check-ps-spec = tie.close (tie.spec check-pair-requires returns)
+check-ps-spec = tie.close (tie.spec (λ c κs. search needs) returns)

@@ -5,12 +5,9 @@ use borrow.Author.Needs.{needs}
 use Rattle.common.proofs.in_t.Statement.{statement}
 use Rattle.common.proofs.in_t.Tie as tie
 
-ranged-requires : tie.Need-ranged-requires
-ranged-requires c κs = search needs
-
 returns : tie.Need-returns
 unfolding ofBits decimal whole scaled
 returns c = c .ranged .ensures
 
 pub in-t-spec : {M : Type 1} → statement M
-in-t-spec = tie.close (tie.spec ranged-requires returns)
+in-t-spec = tie.close (tie.spec (λ c κs. search needs) returns)

@@ -5,9 +5,6 @@ use Rattle.common.proofs.Laws.{check-kept, check-lost}
 use Rattle.common.proofs.settle.Statement.{statement}
 use Rattle.common.proofs.settle.Tie as tie
 
-is-finite-requires : tie.Need-is-finite-requires
-is-finite-requires c κs = search needs
-
 returns : tie.Need-returns
 returns c = sym (check-kept (c .before .before .args .x) (cc))
 
@@ -15,4 +12,4 @@ returns-2 : tie.Need-returns-2
 returns-2 c = sym (check-lost (c .before .before .args .x) (cc))
 
 pub settle-spec : {M : Type 1} → statement M
-settle-spec = tie.close (tie.spec is-finite-requires returns returns-2)
+settle-spec = tie.close (tie.spec (λ c κs. search needs) returns returns-2)

@@ -1,4 +1,4 @@
--- `r4::raw_T_saturation` meets its contract. Assumes nothing.
+-- `r4::raw_T_saturation` meets its contract: where the steps come to a finite number that is the formula's, and else it is refused. Assumes nothing.
 use mathlib.Core.Path.{sym, ap, _∙_}
 use lib.Ieee.{ofBits, div}
 use Rattle.common.specs.Outcome.{orNan}
@@ -7,23 +7,12 @@ use borrow.Author.Needs.{needs}
 use Rattle.r4.proofs.raw_T_saturation.Statement.{statement}
 use Rattle.r4.proofs.raw_T_saturation.Tie as tie
 
-t-steps-requires : tie.Need-t-steps-requires
-t-steps-requires c κs = search needs
-
-is-finite-requires : tie.Need-is-finite-requires
-is-finite-requires c κs = search needs
-
 returns : tie.Need-returns
-returns c =
-    let s = c .before .before .t-steps in
-    (ap orNan (sym (check-kept (s .result) (cc)) ∙ s .ensures), s .ensures)
+returns c = let s = c .before .before .t-steps in sym (ap orNan (s .ensures .is ∙ check-kept (s .result) (cc)))
 
 returns-2 : tie.Need-returns-2
 unfolding div ofBits
-returns-2 c =
-    let s = c .before .before .t-steps in
-    let l = check-lost (s .result) (cc) in
-    (ap orNan (sym l ∙ s .ensures), sym l ∙ s .ensures)
+returns-2 c = let s = c .before .before .t-steps in sym (ap orNan (s .ensures .is ∙ check-lost (s .result) (cc)))
 
 pub raw-T-saturation-spec : {M : Type 1} → statement M
-raw-T-saturation-spec = tie.close (tie.spec t-steps-requires is-finite-requires returns returns-2)
+raw-T-saturation-spec = tie.close (tie.spec (λ c κs. search needs) (λ c κs. search needs) returns returns-2)

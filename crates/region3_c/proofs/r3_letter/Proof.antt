@@ -3,14 +3,8 @@ use borrow.Author.Needs.{needs}
 use Rattle.region3_c.proofs.r3_letter.Statement.{statement}
 use Rattle.region3_c.proofs.r3_letter.Tie as tie
 
-sub-region3-pT-requires : tie.Need-sub-region3-pT-requires
-sub-region3-pT-requires c κs = search needs
-
-tell-letter-requires : tie.Need-tell-letter-requires
-tell-letter-requires c κs = search needs
-
 returns : tie.Need-returns
-returns c = rw (c .before .before .sub-region3-pT .ensures) at (c .tell-letter .ensures)
+returns c = rw (c .before .before .sub-region3-pT .ensures) at (c .exported-letter .ensures)
 
 pub r3-letter-spec : {M : Type 1} → statement M
-r3-letter-spec = tie.close (tie.spec sub-region3-pT-requires tell-letter-requires returns)
+r3-letter-spec = tie.close (tie.spec (λ c κs. search needs) (λ c κs. search needs) returns)

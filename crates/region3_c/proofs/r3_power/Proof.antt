@@ -6,14 +6,8 @@ use borrow.Author.Needs.{needs}
 use Rattle.region3_c.proofs.r3_power.Statement.{statement}
 use Rattle.region3_c.proofs.r3_power.Tie as tie
 
-power-requires : tie.Need-power-requires
-power-requires c κs = search needs
-
-tell-requires : tie.Need-tell-requires
-tell-requires c κs = search needs
-
 returns : tie.Need-returns
-returns c = rw (c .before .before .power .ensures ∙ ap (powerRule _) (toZ-ofZ (c .before .before .before .fits .n))) at (c .tell .ensures)
+returns c = rw (c .before .before .power .ensures ∙ ap (powerRule _) (toZ-ofZ (c .before .before .before .fits .n))) at (c .exported .ensures)
 
 pub r3-power-spec : {M : Type 1} → statement M
-r3-power-spec = tie.close (tie.spec power-requires tell-requires returns)
+r3-power-spec = tie.close (tie.spec (λ c κs. search needs) (λ c κs. search needs) returns)

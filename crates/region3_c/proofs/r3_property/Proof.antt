@@ -2,22 +2,16 @@
 use mathlib.Core.Path.{ap, _∙_}
 use lib.IntN.{ℤ}
 use mir.Facts.{toZ-ofZ}
-use Rattle.helmholtz.specs.Property.{propertyRule}
+use Rattle.by_number.specs.Property.{propertyRule}
 use borrow.Author.Needs.{needs}
 use Rattle.region3_c.proofs.r3_property.Statement.{statement}
 use Rattle.region3_c.proofs.r3_property.Tie as tie
-
-Td-thermal-reg3-requires : tie.Need-Td-thermal-reg3-requires
-Td-thermal-reg3-requires c κs = search needs
-
-tell-requires : tie.Need-tell-requires
-tell-requires c κs = search needs
 
 returns : tie.Need-returns
 returns c =
     let at = c .before .before .before in
     let same = ap (λ (n : ℤ). propertyRule n (at .args .t) (at .args .d)) (toZ-ofZ (at .fits .number)) in
-    rw (c .before .before .Td-thermal-reg3 .ensures ∙ same) at (c .tell .ensures)
+    rw (c .before .before .Td-thermal-reg3 .ensures ∙ same) at (c .exported .ensures)
 
 pub r3-property-spec : {M : Type 1} → statement M
-r3-property-spec = tie.close (tie.spec Td-thermal-reg3-requires tell-requires returns)
+r3-property-spec = tie.close (tie.spec (λ c κs. search needs) (λ c κs. search needs) returns)

@@ -7,21 +7,6 @@ use Rattle.rows.specs.Lines.{lastLine, Wrote}
 use Rattle.rows.proofs.last_line.Statement.{statement}
 use Rattle.rows.proofs.last_line.Tie as tie
 
-rows-in-requires : tie.Need-rows-in-requires
-rows-in-requires c κs = search needs
-
-add-put-last : tie.Need-add-put-last
-add-put-last c = search needs
-
-mul-put-last : tie.Need-mul-put-last
-mul-put-last c = search needs
-
-sub-put-last : tie.Need-sub-put-last
-sub-put-last c = search needs
-
-put-last-requires : tie.Need-put-last-requires
-put-last-requires c κs = search needs
-
 returns : tie.Need-returns
 returns c =
     let n = c .before .before in
@@ -36,4 +21,4 @@ returns c =
 pub last-line-spec : {M : Type 1} → statement M
 last-line-spec =
     tie.close
-    (tie.spec rows-in-requires add-put-last mul-put-last sub-put-last put-last-requires returns)
+    (tie.spec (λ c κs. search needs) (λ c. search needs) (λ c. search needs) (λ c. search needs) (λ c κs. search needs) returns)

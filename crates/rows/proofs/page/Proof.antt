@@ -12,15 +12,6 @@ use Rattle.rows.proofs.Laws.{lines-of-bytes}
 use Rattle.rows.proofs.page.Statement.{statement}
 use Rattle.rows.proofs.page.Tie as tie
 
-rows-in-requires : tie.Need-rows-in-requires
-rows-in-requires c κs = search needs
-
-take-rows-requires : tie.Need-take-rows-requires
-take-rows-requires c κs = search needs
-
-put-lines-requires : tie.Need-put-lines-requires
-put-lines-requires c κs = search needs
-
 returns : tie.Need-returns
 returns c =
     let w = c .before .before .before .before .before .before in
@@ -47,4 +38,4 @@ returns c =
     )
 
 pub page-spec : {M : Type 1} → statement M
-page-spec = tie.close (tie.spec rows-in-requires take-rows-requires put-lines-requires returns)
+page-spec = tie.close (tie.spec (λ c κs. search needs) (λ c κs. search needs) (λ c κs. search needs) returns)

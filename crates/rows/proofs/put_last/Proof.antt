@@ -6,20 +6,11 @@ use Rattle.rows.proofs.Laws.{wrote-then, decimal-room}
 use Rattle.rows.proofs.put_last.Statement.{statement}
 use Rattle.rows.proofs.put_last.Tie as tie
 
-slice-aggregate-put : tie.Need-slice-aggregate-put
-slice-aggregate-put c = search needs
-
-put-requires : tie.Need-put-requires
-put-requires c κs = search needs
-
 put-decimal-requires : tie.Need-put-decimal-requires
 put-decimal-requires c κs =
     let w1 = c .before in
     let s = w1 .before .before .before in
     omega (arith, w1 .put .ensures .ends, w1 .put .kept .0, decimal-room (s .args .rows) (s .fits .rows .fits))
-
-slice-aggregate-put-2 : tie.Need-slice-aggregate-put-2
-slice-aggregate-put-2 c = search needs
 
 put-requires-2 : tie.Need-put-requires-2
 put-requires-2 c κs =
@@ -35,9 +26,6 @@ put-decimal-requires-2 c κs =
     let w1 = w2 .before .before in
     let s = w1 .before .before .before in
     omega (arith, w1 .put .ensures .ends, w1 .put .kept .0, w2 .put-decimal .ensures .ends, w2 .put-decimal .kept .0, w3 .put2 .ensures .ends, w3 .put2 .kept .0, decimal-room (s .args .rows) (s .fits .rows .fits), decimal-room (s .args .left) (s .fits .left .fits))
-
-slice-aggregate-put-3 : tie.Need-slice-aggregate-put-3
-slice-aggregate-put-3 c = search needs
 
 put-requires-3 : tie.Need-put-requires-3
 put-requires-3 c κs =
@@ -64,12 +52,12 @@ pub put-last-spec : {M : Type 1} → statement M
 put-last-spec =
     tie.close
     (tie.spec
-    slice-aggregate-put
-    put-requires
+    (λ c. search needs)
+    (λ c κs. search needs)
     put-decimal-requires
-    slice-aggregate-put-2
+    (λ c. search needs)
     put-requires-2
     put-decimal-requires-2
-    slice-aggregate-put-3
+    (λ c. search needs)
     put-requires-3
     returns)

@@ -5,31 +5,8 @@ use borrow.Author.Needs.{needs}
 use Rattle.stream.proofs.send.Statement.{statement}
 use Rattle.stream.proofs.send.Tie as tie
 
-slice-aggregate-write-all : tie.Need-slice-aggregate-write-all
-slice-aggregate-write-all c = let s = c .before .before in sym (length-take-le (s .args .to) (s .args .lines .now) (s .pre))
-
-write-all-requires : tie.Need-write-all-requires
-write-all-requires c κs = search needs
-
-returns : tie.Need-returns
-returns c = search needs
-
-slice-aggregate-fail : tie.Need-slice-aggregate-fail
-slice-aggregate-fail c = search needs
-
-fail-requires : tie.Need-fail-requires
-fail-requires c κs = search needs
-
-returns-2 : tie.Need-returns-2
-returns-2 c = search needs
+slice-aggregate-send-2 : tie.Need-slice-aggregate-send-2
+slice-aggregate-send-2 c = let s = c .before .before .before in sym (length-take-le (s .args .to) (s .args .lines .now) (s .pre))
 
 pub send-spec : {M : Type 1} → statement M
-send-spec =
-    tie.close
-    (tie.spec
-    slice-aggregate-write-all
-    write-all-requires
-    returns
-    slice-aggregate-fail
-    fail-requires
-    returns-2)
+send-spec = tie.close (tie.spec (λ c. search needs) slice-aggregate-send-2 (λ c κs. search needs) (λ c. search needs))

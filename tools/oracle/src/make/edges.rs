@@ -1,10 +1,13 @@
 //! The edges of each entry, one by one: special numbers, range ends, marks, lines, known points.
 //! A random number that stands beside an edge only fills the other argument.
 
-use super::points::{beside, Quantity, P_BANDS, SPECIAL, ZERO_BASES};
+use super::points::{beside, Quantity, P_BANDS, P_SPLITS, SPECIAL, ZERO_BASES};
 use super::random::Random;
+use super::search::crossing;
 use super::states::{self, band_end, on_line, shape};
 use super::{nameless, rules};
+use crate::forms::ruled::{r3, r4};
+use crate::ranges::*;
 use crate::row::Row;
 
 type Pair = (f64, f64);
@@ -24,13 +27,19 @@ fn of_state(entry: u8, random: &mut Random) -> Vec<Row> {
         Some(second) => both(first, second, random),
     };
     match entry {
-        8 | 9 | 10 | 21 | 30 => pairs.extend(pT_lines(random)),
+        8 | 10 | 30 => {
+            pairs.extend(pT_lines(random));
+            pairs.extend(between_lines());
+        }
+        9 | 21 => pairs.extend(pT_lines(random)),
         12..=16 | 20 | 22..=25 => {
             // crossings of range ends, dividing lines, two-phase states
             pairs.extend((0..150).filter_map(|_| states::line(entry, random)));
         }
+        11 => pairs.extend(splits()),
         _ => (),
     }
+    pairs.extend(on_ends(entry));
     let row = |n, (x, y): Pair| Row::new(entry, n, x, y);
     let mut rows: Vec<Row> = Vec::new();
     for &(x, y) in &pairs {
@@ -47,7 +56,7 @@ fn of_state(entry: u8, random: &mut Random) -> Vec<Row> {
                 .into_iter()
                 .map(|(letter, pair)| row(letter as i32, pair)),
         ),
-        11 => rows.extend(pairs.iter().map(|&pair| row(1, pair))),
+        11 => rows.extend(pairs.iter().flat_map(|&pair| [row(0, pair), row(1, pair)])),
         25 => rows.extend(numbers(random).into_iter().map(|(n, pair)| row(n, pair))),
         _ => (),
     }
@@ -96,7 +105,7 @@ fn ends(quantity: Quantity) -> Vec<f64> {
 }
 
 /// Every boundary and the saturation line at the bands' ends and between; the critical point; the
-/// points that document 01 and docs/DIFFERENCES.md name.
+/// points that docs/SCOPE.md and docs/DIFFERENCES.md name.
 fn pT_lines(random: &mut Random) -> Vec<Pair> {
     let mut pairs = Vec::new();
     let mut pressures = P_BANDS.to_vec();
@@ -116,6 +125,84 @@ fn pT_lines(random: &mut Random) -> Vec<Pair> {
         pairs.extend(temperatures.iter().map(|&T| (beside(22.064, n), T)));
     }
     pairs.extend(NAMED);
+    pairs
+}
+
+/// At each band's end, a unit and some 1e-9 either side of it: the middle between every two lines
+/// that stand next to each other there, so that each letter of both bands is met. Where an end is the
+/// crossing of two lines, a unit leaves no room between them; the last printed digit, 1e-8, does.
+fn between_lines() -> Vec<Pair> {
+    let mut ends = P_BANDS.to_vec();
+    ends.push(band_end());
+    let near = |p: f64| [p, beside(p, -1), beside(p, 1), p - 4e-9, p + 4e-9, p + 9e-9];
+    let mut pairs = Vec::new();
+    for p in ends.into_iter().flat_map(near) {
+        let mut lines: Vec<f64> = (0..13).map(|line| on_line(line, p)).collect();
+        lines.retain(|&T| T_BOX.0 < T && T < T_BOX.1);
+        lines.extend([T_BOX.0, T_BOX.1]);
+        lines.sort_by(f64::total_cmp);
+        pairs.extend(
+            lines
+                .windows(2)
+                .map(|two| (p, two[0] + (two[1] - two[0]) / 2.0)),
+        );
+    }
+    pairs
+}
+
+/// Where `pT2v_sat_reg3` changes its equation and a unit either side of it, on the saturation line,
+/// beside it, and at both ends of its temperatures.
+fn splits() -> Vec<Pair> {
+    let mut pairs = Vec::new();
+    for p in P_SPLITS
+        .iter()
+        .flat_map(|&end| (-1..=1).map(move |n| beside(end, n)))
+    {
+        let T = r4::T_saturation(p);
+        pairs.extend([T, beside(T, -1), beside(T, 1), 624.0, 640.0, 647.0].map(|T| (p, T)));
+    }
+    pairs
+}
+
+/// Where the state that an entry works out has its p, T or d on an end of its range, exactly, and a
+/// unit of the argument either side of it. The first argument runs over its range.
+fn on_ends(entry: u8) -> Vec<Pair> {
+    let d = |v: f64| 1.0 / v;
+    match entry {
+        9 | 10 | 21 | 30 => ends_of(P_BOX, T_BOX, &[D_BOX.0], |p, T| d(r3::pT2v_reg3(p, T))),
+        12 | 22 => ends_of(P_BOX, H_BOX, &[T_BOX.0, T_BOX.1], r3::ph2T_reg3),
+        13 => ends_of(P_BOX, H_BOX, &[D_BOX.0, D_BOX.1], |p, h| {
+            d(r3::ph2v_reg3(p, h))
+        }),
+        14 | 23 => ends_of(P_BOX, S_BOX, &[T_BOX.0, T_BOX.1], r3::ps2T_reg3),
+        15 => ends_of(P_BOX, S_BOX, &[D_BOX.0, D_BOX.1], |p, s| {
+            d(r3::ps2v_reg3(p, s))
+        }),
+        16 | 24 => ends_of(H_BOX, S_BOX, &[P_BOX.0, P_BOX.1], r3::hs2p_reg3),
+        20 | 25 => ends_of(T_BOX, D_BOX, &[P_BOX.0, P_BOX.1], r3::Td2p_reg3),
+        _ => Vec::new(),
+    }
+}
+
+fn ends_of(first: Range, second: Range, ends: &[f64], f: impl Fn(f64, f64) -> f64) -> Vec<Pair> {
+    let mut pairs = Vec::new();
+    for &end in ends {
+        let mut found = 0;
+        for i in 1..400 {
+            let x = first.0 + (first.1 - first.0) * f64::from(i) / 400.0;
+            let Some(y) = crossing(second.0, second.1, end, |y| f(x, y)) else {
+                continue;
+            };
+            let Some(y) = (-20..=20).map(|n| beside(y, n)).find(|&y| f(x, y) == end) else {
+                continue;
+            };
+            pairs.extend((-1..=1).map(|n| (x, beside(y, n))));
+            found += 1;
+            if found == 6 {
+                break;
+            }
+        }
+    }
     pairs
 }
 

@@ -1,5 +1,5 @@
 //! Makes rows: for each entry its edges, one by one, and between them random ones.
-//! Only document 01's rules are used, so a seed gives the same rows on every machine.
+//! Only docs/SCOPE.md's rules are used, so a seed gives the same rows on every machine.
 
 mod edges;
 mod points;

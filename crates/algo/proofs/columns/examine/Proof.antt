@@ -14,9 +14,6 @@ use Rattle.algo.proofs.columns.examine.Tie as tie
 reach-of-requires : tie.Need-reach-of-requires
 reach-of-requires c κs = (c .before .if1 .taken, c .if2 .taken)
 
-roomy-requires : tie.Need-roomy-requires
-roomy-requires c κs = search needs
-
 returns : tie.Need-returns
 returns c =
     let r = c .before .before in
@@ -42,4 +39,4 @@ returns-4 c = rw (ne-eqb _ _ (c .if1 .left))
 pub examine-spec : {M : Type 1} → statement M
 examine-spec =
     tie.close
-    (tie.spec reach-of-requires roomy-requires returns returns-2 returns-3 returns-4)
+    (tie.spec reach-of-requires (λ c κs. search needs) returns returns-2 returns-3 returns-4)

@@ -15,28 +15,10 @@ use Rattle.algo.proofs.columns.reach_of.Tie as tie
 sum-fits : (d : Order) (n s : ℕ) → n ≤ 2 ^ 31 → s ≡ steps d → Fits w32 (n + s)
 sum-fits d n s h e = let l = steps-few d in record { fits = omega arith }
 
-span-of-requires : tie.Need-span-of-requires
-span-of-requires c κs = search needs
-
-span-of-requires-2 : tie.Need-span-of-requires-2
-span-of-requires-2 c κs = search needs
-
-step-count-requires : tie.Need-step-count-requires
-step-count-requires c κs = search needs
-
-step-count-requires-2 : tie.Need-step-count-requires-2
-step-count-requires-2 c κs = search needs
-
-rest-requires : tie.Need-rest-requires
-rest-requires c κs = search needs
-
 add-t11 : tie.Need-add-t11
 add-t11 c =
     let s = c .before .before .before in
     sum-fits (s .before .before .before .before .args .a) _ (s .step-count .result) (s .before .before .span-of .ensures .2) (s .step-count .ensures)
-
-rest-requires-2 : tie.Need-rest-requires-2
-rest-requires-2 c κs = search needs
 
 add-t13 : tie.Need-add-t13
 add-t13 c =
@@ -53,12 +35,12 @@ pub reach-of-spec : {M : Type 1} → statement M
 reach-of-spec =
     tie.close
     (tie.spec
-    span-of-requires
-    span-of-requires-2
-    step-count-requires
-    step-count-requires-2
-    rest-requires
+    (λ c κs. search needs)
+    (λ c κs. search needs)
+    (λ c κs. search needs)
+    (λ c κs. search needs)
+    (λ c κs. search needs)
     add-t11
-    rest-requires-2
+    (λ c κs. search needs)
     add-t13
     returns)

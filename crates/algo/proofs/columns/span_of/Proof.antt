@@ -1,4 +1,5 @@
 -- `algo::span_of` meets its contract. The invariant: what is left of the column goes as far, from here on, as the whole. Assumes nothing.
+use mathlib.Core.Bool.{cond}
 use mathlib.Core.Path.{_≡_, _∙_}
 use mathlib.Core.Logic.{⊎-elim}
 use Prim.Native.Nat.{_-_, _≤_}
@@ -9,7 +10,6 @@ use lib.ListN.{length, getD}
 use mir.Syntax.{w32}
 use mir.Val.{toZ}
 use borrow.Author.Needs.{needs}
-use Rattle.common.specs.Outcome.{pick}
 use Rattle.algo.proofs.Loops.{back}
 use Rattle.algo.proofs.Farthest.{Passed, passed-none, passed-more, passed-all}
 use Rattle.algo.proofs.columns.span_of.Statement.{statement}
@@ -41,7 +41,7 @@ abbrev at : tie.After-n Inv-loop μ-loop → ℤ
 at c = getD (c .before .before .before .args .column .now) (c .before .before .loop .k) (pos 0)
 
 -- the highest and the lowest as the branches leave them
-top-is : (c : tie.Joined1 Inv-loop μ-loop) → let z = at (c .before) in let t = toZ w32 (c .before .before .before .loop .top) in toZ w32 (c .if1 .top) ≡ pick (ltZ t z) z t
+top-is : (c : tie.Joined1 Inv-loop μ-loop) → let z = at (c .before) in let t = toZ w32 (c .before .before .before .loop .top) in toZ w32 (c .if1 .top) ≡ cond (ltZ t z) z t
 top-is c =
     let b = back (at (c .before)) (c .before .n .given) in
     ⊎-elim
@@ -49,7 +49,7 @@ top-is c =
     (λ w. rw (w .1, rw b at (w .0 .left)))
     (c .if1 .came)
 
-low-is : (c : tie.Joined2 Inv-loop μ-loop) → let z = at (c .before .before) in let t = toZ w32 (c .before .before .before .before .loop .low) in toZ w32 (c .if2 .low) ≡ pick (ltZ z t) z t
+low-is : (c : tie.Joined2 Inv-loop μ-loop) → let z = at (c .before .before) in let t = toZ w32 (c .before .before .before .before .loop .low) in toZ w32 (c .if2 .low) ≡ cond (ltZ z t) z t
 low-is c =
     let b = back (at (c .before .before)) (c .before .before .n .given) in
     ⊎-elim
@@ -65,12 +65,6 @@ loop-again c =
       passed-more (l .before .args .column .now) (l .loop .k) (toZ w32 (l .loop .top)) (toZ w32 (l .loop .low)) (toZ w32 (c .before .if1 .top)) (toZ w32 (c .if2 .low))
           (omega arith) (n .n .given) (top-is (c .before)) (low-is c) (l .loop .inv .1),
     )
-
-magnitude-requires : tie.Need-magnitude-requires Inv-loop μ-loop
-magnitude-requires c κs = search needs
-
-magnitude-requires-2 : tie.Need-magnitude-requires-2 Inv-loop μ-loop
-magnitude-requires-2 c κs = search needs
 
 returns : tie.Need-returns Inv-loop μ-loop
 returns c =
@@ -93,6 +87,6 @@ span-of-spec =
     add-k
     loop-less
     loop-again
-    magnitude-requires
-    magnitude-requires-2
+    (λ c κs. search needs)
+    (λ c κs. search needs)
     returns)

@@ -9,7 +9,7 @@ use lib.Ieee.{Float, nan}
 use mir.Syntax.{w32}
 use mir.Val.{toZ, ofZ}
 use borrow.Author.Needs.{needs}
-use Rattle.rules.specs.Power.{rawPower}
+use Rattle.rules.specs.RawPower.{rawPower}
 use Rattle.algo.specs.Table.{left}
 use Rattle.algo.specs.Dense.{Filled, exponentAt}
 use Rattle.algo.specs.Reach.{spans}
@@ -39,23 +39,11 @@ at c m r q l s v u e f t =
     let h : natAbs m ≤ 64 = rw q at (known c .rest) in
     power-at v (c .args .w .now) u e r (left (c .args .d) (c .args .k)) f (omega arith) (s ∙ there m (omega arith) ∙ sym q) t
 
-enum-told : tie.Need-enum-told
-enum-told c = search needs
-
 place-requires : tie.Need-place-requires
 place-requires c κs =
     let s = c .before .before in
     let k = known s in
     rw (k .same) (rw (c .enum-told .given .1) at (k .span))
-
-mul-result : tie.Need-mul-result
-mul-result c = search needs
-
-element-copy-out-result : tie.Need-element-copy-out-result
-element-copy-out-result c = search needs
-
-enum-told-2 : tie.Need-enum-told-2
-enum-told-2 c = search needs
 
 sub-place : tie.Need-sub-place
 sub-place c =
@@ -69,18 +57,6 @@ place-requires-2 c κs =
     let k = known s in
     let l : natAbs (s .args .k -ℤ pos 1) ≤ 64 = rw (c .enum-told2 .given .1) at (k .rest) in
     rw (k .same, there (s .args .k -ℤ pos 1) (omega arith)) (rw (c .enum-told2 .given .1) at (k .span))
-
-int-to-float-times : tie.Need-int-to-float-times
-int-to-float-times c = search needs
-
-mul-power : tie.Need-mul-power
-mul-power c = search needs
-
-element-copy-out-power : tie.Need-element-copy-out-power
-element-copy-out-power c = search needs
-
-enum-told-3 : tie.Need-enum-told-3
-enum-told-3 c = search needs
 
 sub-place-2 : tie.Need-sub-place-2
 sub-place-2 c =
@@ -109,15 +85,6 @@ mul-fallen c =
     let k = known s in
     let l : natAbs (s .args .k -ℤ pos 1) ≤ 67 = less-one (s .args .k) (k .size) in
     rw (k .same, there (s .args .k -ℤ pos 1) (omega arith)) (fits (s .args .k *ℤ (s .args .k -ℤ pos 1)) (product (s .args .k) (k .size)))
-
-int-to-float-fallen : tie.Need-int-to-float-fallen
-int-to-float-fallen c = search needs
-
-mul-power-2 : tie.Need-mul-power-2
-mul-power-2 c = search needs
-
-element-copy-out-power-2 : tie.Need-element-copy-out-power-2
-element-copy-out-power-2 c = search needs
 
 returns : tie.Need-returns
 returns c = λ v u e f t.
@@ -157,24 +124,24 @@ pub factor-at-spec : {M : Type 1} → statement M
 factor-at-spec =
     tie.close
     (tie.spec
-    enum-told
+    (λ c. search needs)
     place-requires
-    mul-result
-    element-copy-out-result
-    enum-told-2
+    (λ c. search needs)
+    (λ c. search needs)
+    (λ c. search needs)
     sub-place
     place-requires-2
-    mul-power
-    element-copy-out-power
-    int-to-float-times
-    enum-told-3
+    (λ c. search needs)
+    (λ c. search needs)
+    (λ c. search needs)
+    (λ c. search needs)
     sub-place-2
     place-requires-3
-    mul-power-2
-    element-copy-out-power-2
+    (λ c. search needs)
+    (λ c. search needs)
     sub-fallen
     mul-fallen
-    int-to-float-fallen
+    (λ c. search needs)
     returns
     returns-2
     returns-3)

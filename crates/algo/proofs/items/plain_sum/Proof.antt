@@ -1,70 +1,77 @@
--- `algo::plain_sum` meets its contract. The invariant: what is left of the rows, added to the sum so far, is the whole sum. Assumes nothing.
+-- `algo::plain_sum` meets its contract. The invariant: n is the shortest column's length, and what is left of the rows, added to the sum so far,
+-- is the whole sum.
 use mathlib.Core.Path.{_≡_, refl, sym, _∙_}
-use Prim.Native.Nat.{_+_, _-_}
+use Prim.Native.Nat.{ℕ, _+_, _-_, _<_, _≤_}
 use native.Mathlib.Omega.{arith}
-use lib.Dec.{T}
-use lib.Ieee.{Float, ofBits}
+use lib.Ieee.{ofBits}
+use lib.ListN.{length}
 use borrow.Author.Needs.{needs}
 use Rattle.common.specs.Outcome.{zeroF}
-use Rattle.common.specs.Sum.{rawTotal, every}
+use Rattle.common.specs.Sum.{rawTotal}
 use Rattle.algo.specs.Table.{rowsOf, rowsFrom}
-use Rattle.algo.specs.Raw.{rawDerived}
-use Rattle.algo.specs.Dense.{Stocked}
-use Rattle.algo.specs.Reach.{covers}
-use Rattle.algo.specs.declared.Order.the-variants.{Zero}
-use Rattle.algo.specs.declared.Reach.{Reach}
-use Rattle.algo.proofs.Loops.{none-left, cut-off}
+use Rattle.algo.specs.Raw.{tabled}
+use Rattle.algo.proofs.Loops.{Shortest, shortest, none-after, cut-short}
 use Rattle.algo.proofs.items.plain_sum.Statement.{statement}
 use Rattle.algo.proofs.items.plain_sum.Tie as tie
 
 abbrev Inv-loop : tie.InvT-loop
 Inv-loop wi wj is js ns n sum₀ start₀ sum start =
-    (vi vj : Float) (r : Reach) → Stocked vi vj wi wj r → T (every (covers Zero Zero r) (rowsOf is js ns))
-    → rawTotal (rawDerived Zero Zero vi vj) zeroF (rowsOf is js ns) ≡ rawTotal (rawDerived Zero Zero vi vj) sum (rowsFrom is js ns start)
+    Shortest (length is) (length js) (length ns) n
+    × (rawTotal (tabled wi wj) zeroF (rowsOf is js ns) ≡ rawTotal (tabled wi wj) sum (rowsFrom is js ns start))
 
 abbrev μ-loop : tie.MeasureT-loop
 μ-loop wi wj is js ns n sum₀ start₀ sum start = n - start
 
+-- a part's end
+part : (n k e : ℕ) → k ≤ n → e ≡ n - (n - (k + 11)) → (k ≤ e) × (e ≤ n)
+part n k e l h = (omega arith, omega arith)
+
+further : (a b c : ℕ) → a ≤ b → b ≤ c → a ≤ c
+further a b c p q = omega arith
+
+less : (n k : ℕ) → k < n → n - (k + 11) < n - k
+less n k l = omega arith
+
 loop-holds : tie.Need-loop-holds Inv-loop μ-loop
 unfolding ofBits
-loop-holds c = λ vi vj r s t. refl
+loop-holds c = (shortest _ _ _ _ _ (c .before .least .ensures) (c .least2 .ensures), refl)
 
 add-least : tie.Need-add-least Inv-loop μ-loop
-add-least c = omega arith
+add-least c = omega (arith, c .before .loop .inv .0 .first)
 
-least-requires : tie.Need-least-requires Inv-loop μ-loop
-least-requires c κs = search needs
-
-part-at-requires : tie.Need-part-at-requires Inv-loop μ-loop
-part-at-requires c κs = search needs
+plain-part-requires : tie.Need-plain-part-requires Inv-loop μ-loop
+plain-part-requires c κs =
+    let l = c .before .before in
+    let z = l .loop .inv .0 in
+    let p = part _ (l .loop .start) (c .least3 .result) (omega arith) (c .least3 .ensures) in
+    (p .0, further _ _ _ (p .1) (z .first), further _ _ _ (p .1) (z .second), further _ _ _ (p .1) (z .third))
 
 add-start : tie.Need-add-start Inv-loop μ-loop
-add-start c = omega arith
+add-start c = omega (arith, c .before .before .before .loop .inv .0 .first)
 
 loop-less : tie.Need-loop-less Inv-loop μ-loop
-loop-less c = omega arith
+loop-less c = less _ _ (omega arith)
 
 loop-again : tie.Need-loop-again Inv-loop μ-loop
 loop-again c =
     let f = c .before in
-    let l = f .before in
-    let s = l .before .before .before in
-    let a = s .args in
-    λ vi vj r st t.
-    l .before .loop .inv vi vj r st t
-    ∙ (rw (f .least .ensures) at (c .part-at .ensures vi vj r st t))
-    ∙ cut-off (rawDerived Zero Zero vi vj) (c .part-at .result) (a .is .now) (a .js .now) (a .ns .now) (l .before .loop .start + 15) (s .pre .0)
+    let o = f .before .before in
+    let a = o .before .before .before .before .args in
+    let z = o .loop .inv .0 in (
+      z,
+      o .loop .inv .1
+          ∙ (rw (f .least3 .ensures) at (c .plain-part .ensures))
+          ∙ cut-short (tabled (a .wi .now) (a .wj .now)) (c .plain-part .result) (a .is .now) (a .js .now) (a .ns .now) _ z (o .loop .start + 11),
+    )
 
 returns : tie.Need-returns Inv-loop μ-loop
 returns c =
     let l = c .before in
-    let s = l .before .before in
-    let a = s .args in
+    let a = l .before .before .before .before .args in
     record {
-      over = λ vi vj r st t.
-          sym
-          (l .loop .inv vi vj r st t
-          ∙ none-left (rawDerived Zero Zero vi vj) (l .loop .sum) (a .is .now) (a .js .now) (a .ns .now) (l .loop .start) (s .pre .0) (c .loop-test .left));
+      is = sym
+          (l .loop .inv .1
+          ∙ none-after (tabled (a .wi .now) (a .wj .now)) (l .loop .sum) (a .is .now) (a .js .now) (a .ns .now) _ (l .loop .inv .0) (l .loop .start) (c .loop-test .left));
     }
 
 pub plain-sum-spec : {M : Type 1} → statement M
@@ -73,10 +80,12 @@ plain-sum-spec =
     (tie.spec
     Inv-loop
     μ-loop
+    (λ c κs. search needs)
+    (λ c κs. search needs)
     loop-holds
     add-least
-    least-requires
-    part-at-requires
+    (λ c κs. search needs)
+    plain-part-requires
     add-start
     loop-less
     loop-again

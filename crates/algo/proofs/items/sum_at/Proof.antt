@@ -10,9 +10,6 @@ use Rattle.algo.proofs.Loops.{none-left}
 use Rattle.algo.proofs.items.sum_at.Statement.{statement}
 use Rattle.algo.proofs.items.sum_at.Tie as tie
 
-part-at-requires : tie.Need-part-at-requires
-part-at-requires c κs = search needs
-
 returns : tie.Need-returns
 unfolding ofBits
 returns c =
@@ -24,4 +21,4 @@ returns c =
     }
 
 pub sum-at-spec : {M : Type 1} → statement M
-sum-at-spec = tie.close (tie.spec part-at-requires returns)
+sum-at-spec = tie.close (tie.spec (λ c κs. search needs) returns)

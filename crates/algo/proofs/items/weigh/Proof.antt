@@ -26,59 +26,17 @@ known-i c = known (c .args .i) (c .pre .0)
 known-j : (c : tie.Start) → Known (c .args .j)
 known-j c = known (c .args .j) (c .pre .1)
 
-enum-told : tie.Need-enum-told
-enum-told c = search needs
-
-enum-told-2 : tie.Need-enum-told-2
-enum-told-2 c = search needs
-
-int-to-float-result : tie.Need-int-to-float-result
-int-to-float-result c = search needs
-
-enum-told-3 : tie.Need-enum-told-3
-enum-told-3 c = search needs
-
 sub-result : tie.Need-sub-result
 sub-result c =
     let s = c .before .before in
     let i = known-i s in
     rw (i .same) (fits (s .args .i -ℤ pos 1) (i .less))
 
-int-to-float-result-2 : tie.Need-int-to-float-result-2
-int-to-float-result-2 c = search needs
-
-enum-told-4 : tie.Need-enum-told-4
-enum-told-4 c = search needs
-
-int-to-float-result-3 : tie.Need-int-to-float-result-3
-int-to-float-result-3 c = search needs
-
-enum-told-5 : tie.Need-enum-told-5
-enum-told-5 c = search needs
-
 sub-result-2 : tie.Need-sub-result-2
 sub-result-2 c =
     let s = c .before .before in
     let i = known-i s in
     rw (i .same) (fits (s .args .i -ℤ pos 1) (i .less))
-
-int-to-float-result-4 : tie.Need-int-to-float-result-4
-int-to-float-result-4 c = search needs
-
-int-to-float-result-5 : tie.Need-int-to-float-result-5
-int-to-float-result-5 c = search needs
-
-enum-told-6 : tie.Need-enum-told-6
-enum-told-6 c = search needs
-
-int-to-float-result-6 : tie.Need-int-to-float-result-6
-int-to-float-result-6 c = search needs
-
-int-to-float-result-7 : tie.Need-int-to-float-result-7
-int-to-float-result-7 c = search needs
-
-enum-told-7 : tie.Need-enum-told-7
-enum-told-7 c = search needs
 
 sub-result-3 : tie.Need-sub-result-3
 sub-result-3 c =
@@ -91,12 +49,6 @@ mul-result c =
     let s = c .before .before in
     let j = known-j s in
     rw (j .same, there (s .args .j -ℤ pos 1) (j .less)) (fits (s .args .j *ℤ (s .args .j -ℤ pos 1)) (j .twice))
-
-int-to-float-result-8 : tie.Need-int-to-float-result-8
-int-to-float-result-8 c = search needs
-
-returns : tie.Need-returns
-returns c = search needs
 
 returns-2 : tie.Need-returns-2
 returns-2 c =
@@ -138,26 +90,26 @@ pub weigh-spec : {M : Type 1} → statement M
 weigh-spec =
     tie.close
     (tie.spec
-    enum-told
-    enum-told-2
-    int-to-float-result
-    enum-told-3
+    (λ c. search needs)
+    (λ c. search needs)
+    (λ c. search needs)
+    (λ c. search needs)
     sub-result
-    int-to-float-result-2
-    enum-told-4
-    int-to-float-result-3
-    enum-told-5
+    (λ c. search needs)
+    (λ c. search needs)
+    (λ c. search needs)
+    (λ c. search needs)
     sub-result-2
-    int-to-float-result-4
-    int-to-float-result-5
-    enum-told-6
-    int-to-float-result-6
-    int-to-float-result-7
-    enum-told-7
+    (λ c. search needs)
+    (λ c. search needs)
+    (λ c. search needs)
+    (λ c. search needs)
+    (λ c. search needs)
+    (λ c. search needs)
     sub-result-3
     mul-result
-    int-to-float-result-8
-    returns
+    (λ c. search needs)
+    (λ c. search needs)
     returns-2
     returns-3
     returns-4

@@ -14,20 +14,8 @@ use Rattle.algo.proofs.Refusals.{taken-by, refused-by}
 use Rattle.algo.proofs.polynomial.polys_i_ii_ij_jj_powi.Statement.{statement}
 use Rattle.algo.proofs.polynomial.polys_i_ii_ij_jj_powi.Tie as tie
 
-examine-requires : tie.Need-examine-requires
-examine-requires c κs = search needs
-
-enum-known-reach : tie.Need-enum-known-reach
-enum-known-reach c = search needs
-
-const-four-requires : tie.Need-const-four-requires
-const-four-requires c κs = rw (c .before .reach .given .1) at (c .before .before .before .examine .ensures)
-
-settle-four-requires : tie.Need-settle-four-requires
-settle-four-requires c κs = search needs
-
-enum-known-k : tie.Need-enum-known-k
-enum-known-k c = search needs
+unchecked-four-requires : tie.Need-unchecked-four-requires
+unchecked-four-requires c κs = rw (c .before .reach .given .1) at (c .before .before .before .examine .ensures)
 
 returns : tie.Need-returns
 unfolding fourTable
@@ -38,7 +26,7 @@ returns c =
     let a = e .before .before .args in
     let rows = rowsOf (now (a .is)) (now (a .js)) (now (a .ns)) in
     let h = rw (m .reach .given .1) at (e .examine .ensures) in
-    let p = x .const-four .ensures in
+    let p = x .unchecked-four .ensures in
     c .settle-four .ensures
     ∙ (rw (
       p .0,
@@ -64,10 +52,10 @@ pub polys-i-ii-ij-jj-powi-spec : {M : Type 1} → statement M
 polys-i-ii-ij-jj-powi-spec =
     tie.close
     (tie.spec
-    examine-requires
-    enum-known-reach
-    const-four-requires
-    settle-four-requires
-    enum-known-k
+    (λ c κs. search needs)
+    (λ c. search needs)
+    unchecked-four-requires
+    (λ c κs. search needs)
+    (λ c. search needs)
     returns
     returns-2)

@@ -4,18 +4,6 @@ use Rattle.common.proofs.Laws.{check-kept, check-lost}
 use Rattle.algo.proofs.polynomial.settle_four.Statement.{statement}
 use Rattle.algo.proofs.polynomial.settle_four.Tie as tie
 
-is-finite-requires : tie.Need-is-finite-requires
-is-finite-requires c κs = search needs
-
-is-finite-requires-2 : tie.Need-is-finite-requires-2
-is-finite-requires-2 c κs = search needs
-
-is-finite-requires-3 : tie.Need-is-finite-requires-3
-is-finite-requires-3 c κs = search needs
-
-is-finite-requires-4 : tie.Need-is-finite-requires-4
-is-finite-requires-4 c κs = search needs
-
 returns : tie.Need-returns
 returns c =
     let p = c .before .before .before .before .before .before .before .before .args .p in
@@ -43,10 +31,10 @@ pub settle-four-spec : {M : Type 1} → statement M
 settle-four-spec =
     tie.close
     (tie.spec
-    is-finite-requires
-    is-finite-requires-2
-    is-finite-requires-3
-    is-finite-requires-4
+    (λ c κs. search needs)
+    (λ c κs. search needs)
+    (λ c κs. search needs)
+    (λ c κs. search needs)
     returns
     returns-2
     returns-3

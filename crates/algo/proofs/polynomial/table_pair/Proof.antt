@@ -13,20 +13,8 @@ use Rattle.algo.proofs.Refusals.{taken-by, refused-by}
 use Rattle.algo.proofs.polynomial.table_pair.Statement.{statement}
 use Rattle.algo.proofs.polynomial.table_pair.Tie as tie
 
-examine-requires : tie.Need-examine-requires
-examine-requires c κs = search needs
-
-enum-known-reach : tie.Need-enum-known-reach
-enum-known-reach c = search needs
-
-const-pair-requires : tie.Need-const-pair-requires
-const-pair-requires c κs = rw (c .before .reach .given .1) at (c .before .before .before .examine .ensures)
-
-settle-pair-requires : tie.Need-settle-pair-requires
-settle-pair-requires c κs = search needs
-
-enum-known-k : tie.Need-enum-known-k
-enum-known-k c = search needs
+unchecked-pair-requires : tie.Need-unchecked-pair-requires
+unchecked-pair-requires c κs = rw (c .before .reach .given .1) at (c .before .before .before .examine .ensures)
 
 returns : tie.Need-returns
 unfolding pairTable
@@ -37,7 +25,7 @@ returns c =
     let a = e .before .before .args in
     let rows = rowsOf (now (a .is)) (now (a .js)) (now (a .ns)) in
     let h = rw (m .reach .given .1) at (e .examine .ensures) in
-    let p = x .const-pair .ensures in
+    let p = x .unchecked-pair .ensures in
     c .settle-pair .ensures
     ∙ (rw (p .0, p .1, share-settled (a .a) (a .s) (a .vi) (a .vj) rows, share-settled (a .a) (a .t) (a .vi) (a .vj) rows))
     ∙ sym (taken-by (λ (rs : List Row). pairOf (shareRule (a .a) (a .s) (a .vi) (a .vj) rs) (shareRule (a .a) (a .t) (a .vi) (a .vj) rs)) (now (a .is)) (now (a .js)) (now (a .ns)) (h .0) (h .1))
@@ -54,10 +42,10 @@ pub table-pair-spec : {M : Type 1} → statement M
 table-pair-spec =
     tie.close
     (tie.spec
-    examine-requires
-    enum-known-reach
-    const-pair-requires
-    settle-pair-requires
-    enum-known-k
+    (λ c κs. search needs)
+    (λ c. search needs)
+    unchecked-pair-requires
+    (λ c κs. search needs)
+    (λ c. search needs)
     returns
     returns-2)

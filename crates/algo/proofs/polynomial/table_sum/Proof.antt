@@ -11,20 +11,8 @@ use Rattle.algo.proofs.Refusals.{taken-by, refused-by}
 use Rattle.algo.proofs.polynomial.table_sum.Statement.{statement}
 use Rattle.algo.proofs.polynomial.table_sum.Tie as tie
 
-examine-requires : tie.Need-examine-requires
-examine-requires c κs = search needs
-
-enum-known-reach : tie.Need-enum-known-reach
-enum-known-reach c = search needs
-
-const-slope-requires : tie.Need-const-slope-requires
-const-slope-requires c κs = rw (c .before .reach .given .1) at (c .before .before .before .examine .ensures)
-
-settle-requires : tie.Need-settle-requires
-settle-requires c κs = search needs
-
-enum-known-k : tie.Need-enum-known-k
-enum-known-k c = search needs
+unchecked-sum-requires : tie.Need-unchecked-sum-requires
+unchecked-sum-requires c κs = rw (c .before .reach .given .1) at (c .before .before .before .examine .ensures)
 
 returns : tie.Need-returns
 unfolding tableRule
@@ -36,7 +24,7 @@ returns c =
     let rows = rowsOf (now (a .is)) (now (a .js)) (now (a .ns)) in
     let h = rw (m .reach .given .1) at (e .examine .ensures) in
     c .settle .ensures
-    ∙ ap check (x .const-slope .ensures)
+    ∙ ap check (x .unchecked-sum .ensures)
     ∙ slope-settled (a .a) (a .b) (a .vi) (a .vj) rows
     ∙ sym (taken-by (sumRule (derived (a .a) (a .b)) (a .vi) (a .vj)) (now (a .is)) (now (a .js)) (now (a .ns)) (h .0) (h .1))
 
@@ -52,10 +40,10 @@ pub table-sum-spec : {M : Type 1} → statement M
 table-sum-spec =
     tie.close
     (tie.spec
-    examine-requires
-    enum-known-reach
-    const-slope-requires
-    settle-requires
-    enum-known-k
+    (λ c κs. search needs)
+    (λ c. search needs)
+    unchecked-sum-requires
+    (λ c κs. search needs)
+    (λ c. search needs)
     returns
     returns-2)

@@ -2,22 +2,23 @@
 use mathlib.Core.Path.{_≡_}
 use Prim.Native.Nat.{ℕ, _+_, _-_, _^_, _≤_}
 use native.Mathlib.Omega.{arith}
+use mathlib.Core.List.{List}
 use lib.Ieee.{Float}
-use Rattle.algo.specs.Dense.{squared, Filled}
-use Rattle.algo.proofs.Dense.{filled-up}
+use Rattle.algo.specs.Dense.{squared, Written}
+use Rattle.algo.proofs.Dense.{written-up}
 use Rattle.algo.proofs.powers.double.Statement.{statement}
 use Rattle.algo.proofs.powers.double.Tie as tie
 
 abbrev Inv-loop : tie.InvT-loop
 Inv-loop half count sq w₀ k₀ w k =
     (k ≤ count)
-    × ((a : Float) (h : ℕ) → h ≤ 31 → half ≡ 2 ^ h → sq ≡ squared h a → Filled a w₀ 64 (64 + half) → Filled a w 64 (64 + half + k))
+    × ((a : Float) (b : List Float) (h : ℕ) → h ≤ 31 → half ≡ 2 ^ h → sq ≡ squared h a → Written a b w₀ 64 (64 + half) → Written a b w 64 (64 + half + k))
 
 abbrev μ-loop : tie.MeasureT-loop
 μ-loop half count sq w₀ k₀ w k = count - k
 
 loop-holds : tie.Need-loop-holds Inv-loop μ-loop
-loop-holds c = (omega arith, λ a h l e q f. let z : 64 + c .args .half + 0 ≡ 64 + c .args .half = omega arith in rw z f)
+loop-holds c = (omega arith, λ a b h l e q f. let z : 64 + c .args .half + 0 ≡ 64 + c .args .half = omega arith in rw z f)
 
 add-w : tie.Need-add-w Inv-loop μ-loop
 add-w c = omega arith
@@ -52,14 +53,14 @@ loop-again c =
     let k = l .loop .k in
     let w = l .loop .w in (
       omega arith,
-      λ a h m e q f. rw (e, q) (filled-up a w h k m (omega arith) (omega arith) (rw e at (l .loop .inv .1 a h m e q f))),
+      λ a b h m e q f. rw (e, q) (written-up a b w h k m (omega arith) (omega arith) (rw e at (l .loop .inv .1 a b h m e q f))),
     )
 
 returns : tie.Need-returns Inv-loop μ-loop
 returns c =
     let l = c .before in
     let done : l .loop .k ≡ l .before .args .count = omega arith in
-    λ a h m e q f. rw done at (l .loop .inv .1 a h m e q f)
+    λ a b h m e q f. rw done at (l .loop .inv .1 a b h m e q f)
 
 pub double-spec : {M : Type 1} → statement M
 double-spec =

@@ -3,21 +3,22 @@
 use mathlib.Core.Path.{_≡_}
 use Prim.Native.Nat.{ℕ, _+_, _-_, _≤_}
 use native.Mathlib.Omega.{arith}
+use mathlib.Core.List.{List}
 use lib.Ieee.{Float, ofBits}
 use borrow.Author.Needs.{needs}
-use Rattle.algo.specs.Dense.{Filled}
-use Rattle.algo.proofs.Dense.{filled-down}
+use Rattle.algo.specs.Dense.{Written}
+use Rattle.algo.proofs.Dense.{written-down}
 use Rattle.algo.proofs.powers.fill_down.Statement.{statement}
 use Rattle.algo.proofs.powers.fill_down.Tie as tie
 
 abbrev Inv-loop : tie.InvT-loop
-Inv-loop low w₀ k₀ w k = (k ≤ low) × ((a : Float) (hi : ℕ) → 65 + low ≤ hi → Filled a w₀ 64 hi → Filled a w (64 - k) hi)
+Inv-loop low w₀ k₀ w k = (k ≤ low) × ((a : Float) (b : List Float) (hi : ℕ) → 65 + low ≤ hi → Written a b w₀ 64 hi → Written a b w (64 - k) hi)
 
 abbrev μ-loop : tie.MeasureT-loop
 μ-loop low w₀ k₀ w k = low - k
 
 loop-holds : tie.Need-loop-holds Inv-loop μ-loop
-loop-holds c = (omega arith, λ a hi n f. f)
+loop-holds c = (omega arith, λ a b hi n f. f)
 
 cast-at : tie.Need-cast-at Inv-loop μ-loop
 cast-at c = omega arith
@@ -30,9 +31,6 @@ mul-over c = omega arith
 
 element-copy-out-over : tie.Need-element-copy-out-over Inv-loop μ-loop
 element-copy-out-over c = omega arith
-
-over-requires : tie.Need-over-requires Inv-loop μ-loop
-over-requires c κs = search needs
 
 sub-w : tie.Need-sub-w Inv-loop μ-loop
 sub-w c = omega arith
@@ -56,14 +54,14 @@ loop-again c =
     let k = l .loop .k in
     let w = l .loop .w in (
       omega arith,
-      λ a hi n f. rw (c .over .ensures) (filled-down a w hi k (omega arith) (omega arith) (l .loop .inv .1 a hi n f)),
+      λ a b hi n f. rw (c .over .ensures) (written-down a b w hi k (omega arith) (omega arith) (l .loop .inv .1 a b hi n f)),
     )
 
 returns : tie.Need-returns Inv-loop μ-loop
 returns c =
     let l = c .before in
     let done : l .loop .k ≡ l .before .args .low = omega arith in
-    λ a hi n f. rw done at (l .loop .inv .1 a hi n f)
+    λ a b hi n f. rw done at (l .loop .inv .1 a b hi n f)
 
 pub fill-down-spec : {M : Type 1} → statement M
 fill-down-spec =
@@ -76,7 +74,7 @@ fill-down-spec =
     add-over
     mul-over
     element-copy-out-over
-    over-requires
+    (λ c κs. search needs)
     sub-w
     mul-w
     element-write-w

@@ -1,8 +1,9 @@
 -- `backward::worked_by` meets its contract: each arm's proof has the shape of its equation. Assumes nothing.
+use Rattle.algo.proofs.Step.{raw-sumOf}
+use Rattle.common.proofs.Formulas.{raw-first, raw-plus, raw-less, raw-scale, raw-under, named}
 use mathlib.Core.Path.{sym}
 use lib.Ieee.{binary64, div}
 use borrow.Author.Needs.{needs}
-use Rattle.state.proofs.Laws.{raw-sumOf, raw-first, raw-plus, raw-less, raw-scale, raw-under, named}
 use Rattle.backward.specs.Equation.{tableOf, workedBy}
 use Rattle.backward.proofs.pattern.worked_by.Statement.{statement}
 use Rattle.backward.proofs.pattern.worked_by.Tie as tie

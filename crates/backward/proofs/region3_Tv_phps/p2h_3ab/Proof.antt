@@ -1,16 +1,15 @@
 -- `backward::p2h_3ab` meets its contract: the proof has the shape of the equation. Assumes nothing.
+use Rattle.common.proofs.Formulas.{raw-value, raw-add, raw-mul, raw-first, raw-times}
 use mathlib.Core.Path.{refl, sym}
 use lib.Ieee.{binary64, div, neg, ofBits, round}
 use Rattle.common.specs.Outcome.{orNan}
-use Rattle.common.specs.Decimal.{more, less, whole, scaled}
-use Rattle.rules.proofs.Formulas.{raw-value, raw-add, raw-mul}
-use Rattle.state.proofs.Laws.{raw-first, raw-times}
+use Rattle.common.specs.Decimal.{plus, minus, whole, scaled}
 use Rattle.backward.specs.Backward.{n1, n2, n3, n4, h3ab}
 use Rattle.backward.proofs.region3_Tv_phps.p2h_3ab.Statement.{statement}
 use Rattle.backward.proofs.region3_Tv_phps.p2h_3ab.Tie as tie
 
 returns : tie.Need-returns
-unfolding h3ab ofBits neg more less whole scaled round
+unfolding h3ab ofBits neg plus minus whole scaled round
 returns c =
     let π = raw-first (div binary64) (c .args .p) (whole 1) in
     let inner = raw-add (raw-value (orNan n3) refl) (raw-mul (raw-value (orNan n4) refl) π) in

@@ -1,31 +1,21 @@
 -- `boundary::bands::band_ab` meets its contract. Assumes nothing.
+use mathlib.Core.Bool.{cond}
 use mathlib.Core.Path.{_≡_, refl}
 use mathlib.Core.List.{[], _∷_}
-use Rattle.common.specs.Outcome.{value, refused, finite, pick}
+use Rattle.common.specs.Outcome.{value, refused, finite}
 use Rattle.common.specs.Sum.{every}
-use Rattle.boundary.specs.Choice.{abRule, abBy}
-use Rattle.boundary.proofs.Tests.{gate}
+use Rattle.choosers.specs.Choosers.{abBy}
+use Rattle.boundary.specs.Choice.{abRule}
+use Rattle.choosers.proofs.Tests.{gate}
 use borrow.Author.Needs.{needs}
 use Rattle.boundary.proofs.bands.band_ab.Statement.{statement}
 use Rattle.boundary.proofs.bands.band_ab.Tie as tie
-
-raw-boundary-requires : tie.Need-raw-boundary-requires
-raw-boundary-requires c κs = search needs
-
-slice-aggregate-all-finite : tie.Need-slice-aggregate-all-finite
-slice-aggregate-all-finite c = search needs
-
-all-finite-requires : tie.Need-all-finite-requires
-all-finite-requires c κs = search needs
-
-by-ab-requires : tie.Need-by-ab-requires
-by-ab-requires c κs = search needs
 
 -- the band's letter, if none of its boundaries is lost
 whole : (c : tie.After-all-finite) →
     let tab = c .before .before .raw-boundary .result in
     let a = c .before .before .before .args in
-    abRule (a .p) (a .t) ≡ pick (every finite (tab ∷ [])) (value (abBy tab (a .t))) (refused 5)
+    abRule (a .p) (a .t) ≡ cond (every finite (tab ∷ [])) (value (abBy tab (a .t))) (refused 5)
 unfolding abRule every
 whole c =
     let tab = c .before .before .raw-boundary .result in
@@ -41,9 +31,9 @@ pub band-ab-spec : {M : Type 1} → statement M
 band-ab-spec =
     tie.close
     (tie.spec
-    raw-boundary-requires
-    slice-aggregate-all-finite
-    all-finite-requires
-    by-ab-requires
+    (λ c κs. search needs)
+    (λ c. search needs)
+    (λ c κs. search needs)
+    (λ c κs. search needs)
     returns
     returns-2)

@@ -1,31 +1,15 @@
 -- `boundary::bands::band_cdef` meets its contract. Assumes nothing.
+use mathlib.Core.Bool.{cond}
 use mathlib.Core.Path.{_≡_, refl}
 use mathlib.Core.List.{[], _∷_}
-use Rattle.common.specs.Outcome.{value, refused, finite, pick}
+use Rattle.common.specs.Outcome.{value, refused, finite}
 use Rattle.common.specs.Sum.{every}
-use Rattle.boundary.specs.Choice.{cdefRule, cdefBy}
-use Rattle.boundary.proofs.Tests.{gate}
+use Rattle.choosers.specs.Choosers.{cdefBy}
+use Rattle.boundary.specs.Choice.{cdefRule}
+use Rattle.choosers.proofs.Tests.{gate}
 use borrow.Author.Needs.{needs}
 use Rattle.boundary.proofs.bands.band_cdef.Statement.{statement}
 use Rattle.boundary.proofs.bands.band_cdef.Tie as tie
-
-raw-boundary-requires : tie.Need-raw-boundary-requires
-raw-boundary-requires c κs = search needs
-
-raw-boundary-requires-2 : tie.Need-raw-boundary-requires-2
-raw-boundary-requires-2 c κs = search needs
-
-raw-boundary-requires-3 : tie.Need-raw-boundary-requires-3
-raw-boundary-requires-3 c κs = search needs
-
-slice-aggregate-all-finite : tie.Need-slice-aggregate-all-finite
-slice-aggregate-all-finite c = search needs
-
-all-finite-requires : tie.Need-all-finite-requires
-all-finite-requires c κs = search needs
-
-by-cdef-requires : tie.Need-by-cdef-requires
-by-cdef-requires c κs = search needs
 
 -- the band's letter, if none of its boundaries is lost
 whole : (c : tie.After-all-finite) →
@@ -33,7 +17,7 @@ whole : (c : tie.After-all-finite) →
     let tcd = c .before .before .before .raw-boundary2 .result in
     let tef = c .before .before .raw-boundary3 .result in
     let a = c .before .before .before .before .before .args in
-    cdefRule (a .p) (a .t) ≡ pick (every finite (tab ∷ tcd ∷ tef ∷ [])) (value (cdefBy tcd tab tef (a .t))) (refused 5)
+    cdefRule (a .p) (a .t) ≡ cond (every finite (tab ∷ tcd ∷ tef ∷ [])) (value (cdefBy tcd tab tef (a .t))) (refused 5)
 unfolding cdefRule every
 whole c =
     let tab = c .before .before .before .before .raw-boundary .result in
@@ -51,11 +35,11 @@ pub band-cdef-spec : {M : Type 1} → statement M
 band-cdef-spec =
     tie.close
     (tie.spec
-    raw-boundary-requires
-    raw-boundary-requires-2
-    raw-boundary-requires-3
-    slice-aggregate-all-finite
-    all-finite-requires
-    by-cdef-requires
+    (λ c κs. search needs)
+    (λ c κs. search needs)
+    (λ c κs. search needs)
+    (λ c. search needs)
+    (λ c κs. search needs)
+    (λ c κs. search needs)
     returns
     returns-2)

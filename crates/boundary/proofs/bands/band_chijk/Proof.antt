@@ -1,37 +1,15 @@
 -- `boundary::bands::band_chijk` meets its contract. Assumes nothing.
+use mathlib.Core.Bool.{cond}
 use mathlib.Core.Path.{_≡_, refl}
 use mathlib.Core.List.{[], _∷_}
-use Rattle.common.specs.Outcome.{value, refused, finite, pick}
+use Rattle.common.specs.Outcome.{value, refused, finite}
 use Rattle.common.specs.Sum.{every}
-use Rattle.boundary.specs.Choice.{chijkRule, chijkBy}
-use Rattle.boundary.proofs.Tests.{gate}
+use Rattle.choosers.specs.Choosers.{chijkBy}
+use Rattle.boundary.specs.Choice.{chijkRule}
+use Rattle.choosers.proofs.Tests.{gate}
 use borrow.Author.Needs.{needs}
 use Rattle.boundary.proofs.bands.band_chijk.Statement.{statement}
 use Rattle.boundary.proofs.bands.band_chijk.Tie as tie
-
-raw-boundary-requires : tie.Need-raw-boundary-requires
-raw-boundary-requires c κs = search needs
-
-raw-boundary-requires-2 : tie.Need-raw-boundary-requires-2
-raw-boundary-requires-2 c κs = search needs
-
-raw-boundary-requires-3 : tie.Need-raw-boundary-requires-3
-raw-boundary-requires-3 c κs = search needs
-
-raw-boundary-requires-4 : tie.Need-raw-boundary-requires-4
-raw-boundary-requires-4 c κs = search needs
-
-raw-boundary-requires-5 : tie.Need-raw-boundary-requires-5
-raw-boundary-requires-5 c κs = search needs
-
-slice-aggregate-all-finite : tie.Need-slice-aggregate-all-finite
-slice-aggregate-all-finite c = search needs
-
-all-finite-requires : tie.Need-all-finite-requires
-all-finite-requires c κs = search needs
-
-by-chijk-requires : tie.Need-by-chijk-requires
-by-chijk-requires c κs = search needs
 
 -- the band's letter, if none of its boundaries is lost
 whole : (c : tie.After-all-finite) →
@@ -41,7 +19,7 @@ whole : (c : tie.After-all-finite) →
     let tij = c .before .before .before .raw-boundary4 .result in
     let tjk = c .before .before .raw-boundary5 .result in
     let a = c .before .before .before .before .before .before .before .args in
-    chijkRule (a .second) (a .p) (a .t) ≡ pick (every finite (tcd ∷ tef ∷ tgh ∷ tij ∷ tjk ∷ [])) (value (chijkBy (a .second) tcd tgh tef tij tjk (a .t))) (refused 5)
+    chijkRule (a .second) (a .p) (a .t) ≡ cond (every finite (tcd ∷ tef ∷ tgh ∷ tij ∷ tjk ∷ [])) (value (chijkBy (a .second) tcd tgh tef tij tjk (a .t))) (refused 5)
 unfolding chijkRule every
 whole c =
     let tcd = c .before .before .before .before .before .before .raw-boundary .result in
@@ -61,13 +39,13 @@ pub band-chijk-spec : {M : Type 1} → statement M
 band-chijk-spec =
     tie.close
     (tie.spec
-    raw-boundary-requires
-    raw-boundary-requires-2
-    raw-boundary-requires-3
-    raw-boundary-requires-4
-    raw-boundary-requires-5
-    slice-aggregate-all-finite
-    all-finite-requires
-    by-chijk-requires
+    (λ c κs. search needs)
+    (λ c κs. search needs)
+    (λ c κs. search needs)
+    (λ c κs. search needs)
+    (λ c κs. search needs)
+    (λ c. search needs)
+    (λ c κs. search needs)
+    (λ c κs. search needs)
     returns
     returns-2)

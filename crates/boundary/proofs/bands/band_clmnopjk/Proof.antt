@@ -1,43 +1,15 @@
 -- `boundary::bands::band_clmnopjk` meets its contract. Assumes nothing.
+use mathlib.Core.Bool.{cond}
 use mathlib.Core.Path.{_≡_, refl}
 use mathlib.Core.List.{[], _∷_}
-use Rattle.common.specs.Outcome.{value, refused, finite, pick}
+use Rattle.common.specs.Outcome.{value, refused, finite}
 use Rattle.common.specs.Sum.{every}
-use Rattle.boundary.specs.Choice.{clmnopjkRule, clmnopjkBy}
-use Rattle.boundary.proofs.Tests.{gate}
+use Rattle.choosers.specs.Choosers.{clmnopjkBy}
+use Rattle.boundary.specs.Choice.{clmnopjkRule}
+use Rattle.choosers.proofs.Tests.{gate}
 use borrow.Author.Needs.{needs}
 use Rattle.boundary.proofs.bands.band_clmnopjk.Statement.{statement}
 use Rattle.boundary.proofs.bands.band_clmnopjk.Tie as tie
-
-raw-boundary-requires : tie.Need-raw-boundary-requires
-raw-boundary-requires c κs = search needs
-
-raw-boundary-requires-2 : tie.Need-raw-boundary-requires-2
-raw-boundary-requires-2 c κs = search needs
-
-raw-boundary-requires-3 : tie.Need-raw-boundary-requires-3
-raw-boundary-requires-3 c κs = search needs
-
-raw-boundary-requires-4 : tie.Need-raw-boundary-requires-4
-raw-boundary-requires-4 c κs = search needs
-
-raw-boundary-requires-5 : tie.Need-raw-boundary-requires-5
-raw-boundary-requires-5 c κs = search needs
-
-raw-boundary-requires-6 : tie.Need-raw-boundary-requires-6
-raw-boundary-requires-6 c κs = search needs
-
-raw-boundary-requires-7 : tie.Need-raw-boundary-requires-7
-raw-boundary-requires-7 c κs = search needs
-
-slice-aggregate-all-finite : tie.Need-slice-aggregate-all-finite
-slice-aggregate-all-finite c = search needs
-
-all-finite-requires : tie.Need-all-finite-requires
-all-finite-requires c κs = search needs
-
-by-clmnopjk-requires : tie.Need-by-clmnopjk-requires
-by-clmnopjk-requires c κs = search needs
 
 -- the band's letter, if none of its boundaries is lost
 whole : (c : tie.After-all-finite) →
@@ -49,7 +21,7 @@ whole : (c : tie.After-all-finite) →
     let tmn = c .before .before .before .raw-boundary6 .result in
     let top = c .before .before .raw-boundary7 .result in
     let a = c .before .before .before .before .before .before .before .before .before .args in
-    clmnopjkRule (a .p) (a .t) ≡ pick (every finite (tcd ∷ tef ∷ tgh ∷ tij ∷ tjk ∷ tmn ∷ top ∷ [])) (value (clmnopjkBy tcd tgh tmn tef top tij tjk (a .t))) (refused 5)
+    clmnopjkRule (a .p) (a .t) ≡ cond (every finite (tcd ∷ tef ∷ tgh ∷ tij ∷ tjk ∷ tmn ∷ top ∷ [])) (value (clmnopjkBy tcd tgh tmn tef top tij tjk (a .t))) (refused 5)
 unfolding clmnopjkRule every
 whole c =
     let tcd = c .before .before .before .before .before .before .before .before .raw-boundary .result in
@@ -71,15 +43,15 @@ pub band-clmnopjk-spec : {M : Type 1} → statement M
 band-clmnopjk-spec =
     tie.close
     (tie.spec
-    raw-boundary-requires
-    raw-boundary-requires-2
-    raw-boundary-requires-3
-    raw-boundary-requires-4
-    raw-boundary-requires-5
-    raw-boundary-requires-6
-    raw-boundary-requires-7
-    slice-aggregate-all-finite
-    all-finite-requires
-    by-clmnopjk-requires
+    (λ c κs. search needs)
+    (λ c κs. search needs)
+    (λ c κs. search needs)
+    (λ c κs. search needs)
+    (λ c κs. search needs)
+    (λ c κs. search needs)
+    (λ c κs. search needs)
+    (λ c. search needs)
+    (λ c κs. search needs)
+    (λ c κs. search needs)
     returns
     returns-2)

@@ -1,40 +1,28 @@
 -- `boundary::bands::band_cst` meets its contract. Assumes nothing.
+use mathlib.Core.Bool.{cond}
 use mathlib.Core.Path.{_≡_, refl}
 use mathlib.Core.List.{[], _∷_}
-use Rattle.common.specs.Outcome.{value, refused, finite, pick}
+use Rattle.common.specs.Outcome.{value, refused, finite}
 use Rattle.common.specs.Sum.{every}
-use Rattle.boundary.specs.Choice.{cstRule, cstBy}
-use Rattle.boundary.proofs.Tests.{gate}
+use Rattle.choosers.specs.Choosers.{cstBy}
+use Rattle.r4.proofs.Raw.{T-checked}
+use Rattle.boundary.specs.Choice.{cstRule}
+use Rattle.choosers.proofs.Tests.{gate}
 use borrow.Author.Needs.{needs}
 use Rattle.boundary.proofs.bands.band_cst.Statement.{statement}
 use Rattle.boundary.proofs.bands.band_cst.Tie as tie
-
-raw-boundary-requires : tie.Need-raw-boundary-requires
-raw-boundary-requires c κs = search needs
-
-raw-T-saturation-requires : tie.Need-raw-T-saturation-requires
-raw-T-saturation-requires c κs = search needs
-
-slice-aggregate-all-finite : tie.Need-slice-aggregate-all-finite
-slice-aggregate-all-finite c = search needs
-
-all-finite-requires : tie.Need-all-finite-requires
-all-finite-requires c κs = search needs
-
-by-cst-requires : tie.Need-by-cst-requires
-by-cst-requires c κs = search needs
 
 -- the band's letter, if none of its boundaries is lost
 whole : (c : tie.After-all-finite) →
     let tcd = c .before .before .before .raw-boundary .result in
     let tsat = c .before .before .raw-T-saturation .result in
     let a = c .before .before .before .before .args in
-    cstRule (a .p) (a .t) ≡ pick (every finite (tcd ∷ tsat ∷ [])) (value (cstBy tcd tsat (a .t))) (refused 5)
+    cstRule (a .p) (a .t) ≡ cond (every finite (tcd ∷ tsat ∷ [])) (value (cstBy tcd tsat (a .t))) (refused 5)
 unfolding cstRule every
 whole c =
     let tcd = c .before .before .before .raw-boundary .result in
     let tsat = c .before .before .raw-T-saturation .result in
-    rw (← c .before .before .before .raw-boundary .ensures, ← c .before .before .raw-T-saturation .ensures .1) (gate tcd _ _ _ (gate tsat _ _ _ refl))
+    rw (← c .before .before .before .raw-boundary .ensures, ← T-checked _ (c .before .before .raw-T-saturation .ensures)) (gate tcd _ _ _ (gate tsat _ _ _ refl))
 
 returns : tie.Need-returns
 returns c = rw (c .by-cst .ensures, whole (c .before .before), ← c .before .before .all-finite .ensures, c .before .if1 .taken)
@@ -46,10 +34,10 @@ pub band-cst-spec : {M : Type 1} → statement M
 band-cst-spec =
     tie.close
     (tie.spec
-    raw-boundary-requires
-    raw-T-saturation-requires
-    slice-aggregate-all-finite
-    all-finite-requires
-    by-cst-requires
+    (λ c κs. search needs)
+    (λ c κs. search needs)
+    (λ c. search needs)
+    (λ c κs. search needs)
+    (λ c κs. search needs)
     returns
     returns-2)

@@ -1,36 +1,20 @@
 -- `boundary::bands::band_near` meets its contract. Assumes nothing.
 use mathlib.Core.Path.{_≡_, refl, sym, _∙_}
-use mathlib.Core.Bool.{true, false}
+use mathlib.Core.Bool.{true, false, cond}
 use mathlib.Core.List.{[], _∷_}
 use lib.Ieee.{lt, ofBits, round}
-use Rattle.common.specs.Outcome.{value, refused, finite, pick, then}
-use Rattle.common.specs.Decimal.{decimal, scaled}
+use Rattle.common.specs.Outcome.{value, refused, finite, then}
+use Rattle.common.specs.Decimal.{decimal, scaled, plus, minus}
 use Rattle.common.specs.Sum.{every}
 use Rattle.common.proofs.Laws.{check-kept, check-lost}
 use Rattle.r4.specs.Saturation.{T-saturation}
-use Rattle.boundary.specs.Choice.{nearRule, uvwxBy, uyzxBy, saturatedBy}
-use Rattle.boundary.proofs.Tests.{gate}
+use Rattle.choosers.specs.Choosers.{uvwxBy, uyzxBy, saturatedBy}
+use Rattle.r4.proofs.Raw.{T-checked}
+use Rattle.boundary.specs.Choice.{nearRule}
+use Rattle.choosers.proofs.Tests.{gate}
 use borrow.Author.Needs.{needs}
 use Rattle.boundary.proofs.bands.band_near.Statement.{statement}
 use Rattle.boundary.proofs.bands.band_near.Tie as tie
-
-raw-boundary-requires : tie.Need-raw-boundary-requires
-raw-boundary-requires c κs = search needs
-
-raw-boundary-requires-2 : tie.Need-raw-boundary-requires-2
-raw-boundary-requires-2 c κs = search needs
-
-raw-boundary-requires-3 : tie.Need-raw-boundary-requires-3
-raw-boundary-requires-3 c κs = search needs
-
-slice-aggregate-all-finite : tie.Need-slice-aggregate-all-finite
-slice-aggregate-all-finite c = search needs
-
-all-finite-requires : tie.Need-all-finite-requires
-all-finite-requires c κs = search needs
-
-by-uvwx-requires : tie.Need-by-uvwx-requires
-by-uvwx-requires c κs = search needs
 
 -- the letter by the bands of p, if none of the boundaries is lost
 whole : (c : tie.After-all-finite) →
@@ -39,9 +23,9 @@ whole : (c : tie.After-all-finite) →
     let tef = c .before .before .raw-boundary3 .result in
     let a = c .before .before .before .before .before .args in
     nearRule (a .p) (a .t)
-    ≡ pick (every finite (tuv ∷ twx ∷ tef ∷ []))
-    (pick (lt (decimal 22_11 2) (a .p)) (value (uvwxBy tuv tef twx (a .t)))
-    (pick (lt (decimal 22_064 3) (a .p)) (value (uyzxBy tuv tef twx (a .t)))
+    ≡ cond (every finite (tuv ∷ twx ∷ tef ∷ []))
+    (cond (lt (decimal 22_11 2) (a .p)) (value (uvwxBy tuv tef twx (a .t)))
+    (cond (lt (decimal 22_064 3) (a .p)) (value (uyzxBy tuv tef twx (a .t)))
     (then (T-saturation (a .p)) (λ tsat. value (saturatedBy tsat tuv twx (a .p) (a .t))))))
     (refused 5)
 unfolding nearRule every
@@ -52,46 +36,34 @@ whole c =
     rw (← c .before .before .before .before .raw-boundary .ensures, ← c .before .before .before .raw-boundary2 .ensures, ← c .before .before .raw-boundary3 .ensures) (gate tuv _ _ _ (gate twx _ _ _ (gate tef _ _ _ refl)))
 
 returns : tie.Need-returns
-unfolding decimal scaled round ofBits
+unfolding decimal plus minus scaled round ofBits
 returns c =
     let d = c .before .before .before in
     rw (c .by-uvwx .ensures, whole d, ← d .all-finite .ensures, c .before .before .if1 .taken, c .before .if2 .taken)
 
-by-uyzx-requires : tie.Need-by-uyzx-requires
-by-uyzx-requires c κs = search needs
-
 returns-2 : tie.Need-returns-2
-unfolding decimal scaled round ofBits
+unfolding decimal plus minus scaled round ofBits
 returns-2 c =
     let d = c .before .before .before .before in
     rw (c .by-uyzx .ensures, whole d, ← d .all-finite .ensures, c .before .before .before .if1 .taken, c .before .before .if2 .left, c .before .if3 .taken)
 
-raw-T-saturation-requires : tie.Need-raw-T-saturation-requires
-raw-T-saturation-requires c κs = search needs
-
-is-finite-requires : tie.Need-is-finite-requires
-is-finite-requires c κs = search needs
-
-by-saturated-requires : tie.Need-by-saturated-requires
-by-saturated-requires c κs = search needs
-
 returns-3 : tie.Need-returns-3
-unfolding decimal scaled round ofBits
+unfolding decimal plus minus scaled round ofBits
 returns-3 c =
     let s = c .before .before .before in
     let e = s .before in
     let d = e .before .before .before in
     let f : finite (s .raw-T-saturation .result) ≡ true = sym (c .before .before .is-finite .ensures) ∙ c .before .if4 .taken in
-    rw (c .by-saturated .ensures, whole d, ← d .all-finite .ensures, e .before .before .if1 .taken, e .before .if2 .left, e .if3 .left, ← s .raw-T-saturation .ensures .1, check-kept (s .raw-T-saturation .result) f)
+    rw (c .by-saturated .ensures, whole d, ← d .all-finite .ensures, e .before .before .if1 .taken, e .before .if2 .left, e .if3 .left, ← T-checked _ (s .raw-T-saturation .ensures), check-kept (s .raw-T-saturation .result) f)
 
 returns-4 : tie.Need-returns-4
-unfolding decimal scaled round ofBits
+unfolding decimal plus minus scaled round ofBits
 returns-4 c =
     let s = c .before .before in
     let e = s .before in
     let d = e .before .before .before in
     let f : finite (s .raw-T-saturation .result) ≡ false = sym (c .before .is-finite .ensures) ∙ c .if4 .left in
-    rw (whole d, ← d .all-finite .ensures, e .before .before .if1 .taken, e .before .if2 .left, e .if3 .left, ← s .raw-T-saturation .ensures .1, check-lost (s .raw-T-saturation .result) f)
+    rw (whole d, ← d .all-finite .ensures, e .before .before .if1 .taken, e .before .if2 .left, e .if3 .left, ← T-checked _ (s .raw-T-saturation .ensures), check-lost (s .raw-T-saturation .result) f)
 
 returns-5 : tie.Need-returns-5
 returns-5 c = rw (whole (c .before), ← c .before .all-finite .ensures, c .if1 .left)
@@ -100,18 +72,18 @@ pub band-near-spec : {M : Type 1} → statement M
 band-near-spec =
     tie.close
     (tie.spec
-    raw-boundary-requires
-    raw-boundary-requires-2
-    raw-boundary-requires-3
-    slice-aggregate-all-finite
-    all-finite-requires
-    by-uvwx-requires
+    (λ c κs. search needs)
+    (λ c κs. search needs)
+    (λ c κs. search needs)
+    (λ c. search needs)
+    (λ c κs. search needs)
+    (λ c κs. search needs)
     returns
-    by-uyzx-requires
+    (λ c κs. search needs)
     returns-2
-    raw-T-saturation-requires
-    is-finite-requires
-    by-saturated-requires
+    (λ c κs. search needs)
+    (λ c κs. search needs)
+    (λ c κs. search needs)
     returns-3
     returns-4
     returns-5)

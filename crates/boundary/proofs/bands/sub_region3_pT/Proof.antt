@@ -6,18 +6,6 @@ use borrow.Author.Needs.{needs}
 use Rattle.boundary.proofs.bands.sub_region3_pT.Statement.{statement}
 use Rattle.boundary.proofs.bands.sub_region3_pT.Tie as tie
 
-check-pT-requires : tie.Need-check-pT-requires
-check-pT-requires c κs = search needs
-
-enum-told : tie.Need-enum-told
-enum-told c = search needs
-
-letter-at-requires : tie.Need-letter-at-requires
-letter-at-requires c κs = search needs
-
-enum-known-k : tie.Need-enum-known-k
-enum-known-k c = search needs
-
 returns : tie.Need-returns
 unfolding letterRule
 returns c = c .letter-at .ensures ∙ sym (going-on (c .before .before .before .check-pT .ensures) _ (c .before .enum-told .given .1))
@@ -29,4 +17,4 @@ returns-2 c = sym (turned-away (c .before .before .before .check-pT .ensures) _ 
 pub sub-region3-pT-spec : {M : Type 1} → statement M
 sub-region3-pT-spec =
     tie.close
-    (tie.spec check-pT-requires enum-told letter-at-requires enum-known-k returns returns-2)
+    (tie.spec (λ c κs. search needs) (λ c. search needs) (λ c κs. search needs) (λ c. search needs) returns returns-2)

@@ -1,22 +1,19 @@
--- `helmholtz::region3_hfe::phi_delta_reg3` meets its contract. Assumes nothing.
+-- `helmholtz::region3_hfe::phi_delta_reg3`: the proof is the formula, tested once at its end.
+use Rattle.common.proofs.Formulas.{raw-check, named, _+ʳ_, _/ʳ_}
 use lib.Ieee.{ofBits}
 use borrow.Author.Needs.{needs}
-use Rattle.common.specs.Decimal.{scaled}
+use Rattle.common.specs.Decimal.{scaled, plus}
 use Rattle.helmholtz.specs.Hfe.{phi-delta}
-use Rattle.helmholtz.specs.Table30.{more14}
-use Rattle.helmholtz.proofs.Steps.{raw, gives, given, by, _+ʳ_, _/ʳ_, n₁}
+use Rattle.helmholtz.proofs.Steps.{n₁}
+use Rattle.helmholtz.proofs.Numbers.{tested}
 use Rattle.helmholtz.proofs.region3_hfe.phi_delta_reg3.Statement.{statement}
 use Rattle.helmholtz.proofs.region3_hfe.phi_delta_reg3.Tie as tie
 
-over-requires : tie.Need-over-requires
-over-requires c κs = search needs
-
-sum-requires : tie.Need-sum-requires
-sum-requires c κs = search needs
-
 returns : tie.Need-returns
-unfolding ofBits more14 scaled phi-delta
-returns c = gives (by (c .before .over .ensures) (n₁ /ʳ given (c .before .before .args .delta)) +ʳ raw (c .sum .ensures))
+unfolding ofBits plus scaled phi-delta
+returns c =
+    let s = c .before .before .before in
+    tested (named (c .before .before .over .ensures) (n₁ /ʳ raw-check (s .args .delta)) +ʳ c .before .sum .ensures .raw) (c .finite-or-nan .ensures)
 
 pub phi-delta-reg3-spec : {M : Type 1} → statement M
-phi-delta-reg3-spec = tie.close (tie.spec over-requires sum-requires returns)
+phi-delta-reg3-spec = tie.close (tie.spec (λ c κs. search needs) (λ c κs. search needs) (λ c κs. search needs) returns)

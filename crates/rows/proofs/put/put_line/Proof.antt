@@ -17,23 +17,11 @@ put-decimal-requires c κs =
     let s = c .before .before in
     omega (arith, s .pre, decimal-room (s .args .row) (s .fits .row .fits))
 
-mark-requires : tie.Need-mark-requires
-mark-requires c κs = search needs
-
-slice-aggregate-put : tie.Need-slice-aggregate-put
-slice-aggregate-put c = search needs
-
 put-requires : tie.Need-put-requires
 put-requires c κs =
     let w1 = c .before .before .before .before .before in
     let s = w1 .before .before .before in
     omega (arith, s .pre, decimal-room (s .args .row) (s .fits .row .fits), w1 .put-decimal .ensures .ends, w1 .put-decimal .kept .0)
-
-refusal-byte-requires : tie.Need-refusal-byte-requires
-refusal-byte-requires c κs = search needs
-
-cast-put-decimal : tie.Need-cast-put-decimal
-cast-put-decimal c = search needs
 
 put-decimal-requires-2 : tie.Need-put-decimal-requires-2
 put-decimal-requires-2 c κs =
@@ -42,9 +30,6 @@ put-decimal-requires-2 c κs =
     let s = w1 .before .before .before in
     omega (arith, short c, s .pre, decimal-room (s .args .row) (s .fits .row .fits), w1 .put-decimal .ensures .ends, w1 .put-decimal .kept .0, w2 .put .ensures .ends, w2 .put .kept .0)
 
-slice-aggregate-put-2 : tie.Need-slice-aggregate-put-2
-slice-aggregate-put-2 c = search needs
-
 put-requires-2 : tie.Need-put-requires-2
 put-requires-2 c κs =
     let w3 = c .before .before .before .before in
@@ -52,9 +37,6 @@ put-requires-2 c κs =
     let w1 = w2 .before .before .before .before .before .before in
     let s = w1 .before .before .before in
     omega (arith, short (w3 .before), s .pre, decimal-room (s .args .row) (s .fits .row .fits), w1 .put-decimal .ensures .ends, w1 .put-decimal .kept .0, w2 .put .ensures .ends, w2 .put .kept .0, w3 .put-decimal2 .ensures .ends, w3 .put-decimal2 .kept .0)
-
-same-length : tie.Need-same-length
-same-length c = search needs
 
 returns : tie.Need-returns
 unfolding lineOf
@@ -74,13 +56,13 @@ put-line-spec =
     tie.close
     (tie.spec
     put-decimal-requires
-    mark-requires
-    slice-aggregate-put
+    (λ c κs. search needs)
+    (λ c. search needs)
     put-requires
-    refusal-byte-requires
-    cast-put-decimal
+    (λ c κs. search needs)
+    (λ c. search needs)
     put-decimal-requires-2
-    slice-aggregate-put-2
+    (λ c. search needs)
     put-requires-2
-    same-length
+    (λ c. search needs)
     returns)

@@ -37,12 +37,6 @@ mul-t17 c = omega arith
 shared-slice-read-t19 : tie.Need-shared-slice-read-t19 Inv-loop μ-loop
 shared-slice-read-t19 c = omega arith
 
-sub-region3-pT-requires : tie.Need-sub-region3-pT-requires Inv-loop μ-loop
-sub-region3-pT-requires c κs = search needs
-
-put-line-requires : tie.Need-put-line-requires Inv-loop μ-loop
-put-line-requires c κs = search needs
-
 add-i : tie.Need-add-i Inv-loop μ-loop
 add-i c = omega arith
 
@@ -83,8 +77,8 @@ put-lines-spec =
     shared-slice-read-t15
     mul-t17
     shared-slice-read-t19
-    sub-region3-pT-requires
-    put-line-requires
+    (λ c κs. search needs)
+    (λ c κs. search needs)
     add-i
     loop-less
     loop-again

@@ -33,9 +33,6 @@ loop-holds c = (omega arith, refl, refl, refl, refl)
 mul-float-at : tie.Need-mul-float-at Inv-loop μ-loop
 mul-float-at c = omega arith
 
-float-at-requires : tie.Need-float-at-requires Inv-loop μ-loop
-float-at-requires c κs = search needs
-
 mul-ps : tie.Need-mul-ps Inv-loop μ-loop
 mul-ps c = omega arith
 
@@ -47,9 +44,6 @@ mul-float-at-2 c = omega arith
 
 add-float-at : tie.Need-add-float-at Inv-loop μ-loop
 add-float-at c = omega arith
-
-float-at-requires-2 : tie.Need-float-at-requires-2 Inv-loop μ-loop
-float-at-requires-2 c κs = search needs
 
 mul-ts : tie.Need-mul-ts Inv-loop μ-loop
 mul-ts c = omega arith
@@ -100,12 +94,12 @@ take-rows-spec =
     μ-loop
     loop-holds
     mul-float-at
-    float-at-requires
+    (λ c κs. search needs)
     mul-ps
     slice-write-ps
     mul-float-at-2
     add-float-at
-    float-at-requires-2
+    (λ c κs. search needs)
     mul-ts
     slice-write-ts
     add-i

@@ -1,4 +1,4 @@
--- `rules::exponential` meets its contract. Assumes nothing.
+-- `rules::exponential` meets its contract: the tests, the nearest whole number of x/L, and then the raw steps checked once. Assumes nothing.
 use Prim.Native.Nat.{ℕ, _≤_}
 use mathlib.Core.Path.{_≡_, sym, ap, subst, _∙_}
 use mathlib.Core.Bool.{true, false}
@@ -6,36 +6,37 @@ use lib.Dec.{T}
 use lib.IntN.{pos}
 use lib.Ieee.{Float, fin, binary64, div, le, lt, neg, ofInt, round, ofBits}
 use Rattle.common.specs.Outcome.{finite, check}
-use Rattle.rules.specs.Log.{number, L}
-use Rattle.rules.specs.Exp.{wholeSize, signed, nearestWhole, twoTo, tame, rawExp, expSteps, exponentialRule}
-use Rattle.rules.proofs.Exps.{tame-quotient, tame-finite, whole-le, signed-whole, exp-check}
+use Rattle.rules.specs.Log.{L}
+use Rattle.rules.specs.Exp.{wholeSize, withSign, nearestWhole, twoTo, expSteps, exponentialRule}
+use Rattle.rules.specs.RawExp.{atMost1010, rawExp}
+use Rattle.rules.proofs.Exps.{quotient-small, small-is-finite, whole-le, signed-whole, exp-check}
 use borrow.Author.Needs.{needs}
 use Rattle.rules.proofs.exp.exponential.Statement.{statement}
 use Rattle.rules.proofs.exp.exponential.Tie as tie
 
-tame-at : (c : tie.Then3) → T (tame (div binary64 (c .before .before .before .before .args .x) L))
+small-at : (c : tie.Then3) → T (atMost1010 (div binary64 (c .before .before .before .before .args .x) L))
 unfolding neg ofBits
-tame-at c =
+small-at c =
     let x = c .before .before .before .before .args .x in
-    tame-quotient x (cc) (c .before .if2 .taken) (c .if3 .taken)
+    quotient-small x (cc) (c .before .if2 .taken) (c .if3 .taken)
 
 whole-is : (c : tie.After-nearest-whole) → c .nearest-whole .result ≡ wholeSize (div binary64 (c .before .before .before .before .before .args .x) L)
 unfolding L round ofBits
 whole-is c = c .nearest-whole .ensures
 
 few : (c : tie.After-nearest-whole) → c .nearest-whole .result ≤ 1010
-few c = subst (λ (n : ℕ). n ≤ 1010) (sym (whole-is c)) (whole-le (div binary64 (c .before .before .before .before .before .args .x) L) (tame-at (c .before)))
+few c = subst (λ (n : ℕ). n ≤ 1010) (sym (whole-is c)) (whole-le (div binary64 (c .before .before .before .before .before .args .x) L) (small-at (c .before)))
 
 k-is : (c : tie.After-nearest-whole)
-    → signed (lt (div binary64 (c .before .before .before .before .before .args .x) (ofBits binary64 4604418534313441775)) (ofBits binary64 0)) (c .nearest-whole .result)
+    → withSign (lt (div binary64 (c .before .before .before .before .before .args .x) (ofBits binary64 4604418534313441775)) (ofBits binary64 0)) (c .nearest-whole .result)
     ≡ nearestWhole (div binary64 (c .before .before .before .before .before .args .x) L)
 unfolding L round ofBits
 k-is c =
     let q = div binary64 (c .before .before .before .before .before .args .x) L in
-    ap (λ (n : ℕ). signed (lt q (fin false 0 (pos 0))) n) (whole-is c) ∙ signed-whole q (tame-finite q (tame-at (c .before)))
+    ap (λ (n : ℕ). withSign (lt q (fin false 0 (pos 0))) n) (whole-is c) ∙ signed-whole q (small-is-finite q (small-at (c .before)))
 
 inside-range : (c : tie.Then3) → exponentialRule (c .before .before .before .before .args .x) ≡ expSteps (c .before .before .before .before .args .x)
-unfolding exponentialRule number ofInt round neg ofBits
+unfolding exponentialRule ofInt round neg ofBits
 inside-range c =
     let x = c .before .before .before .before .args .x in
     let f : finite x ≡ true = cc in
@@ -43,24 +44,15 @@ inside-range c =
     let h : le x (fin false 175 (pos 2)) ≡ true = c .if3 .taken in
     rw (f, g, h)
 
-is-finite-requires : tie.Need-is-finite-requires
-is-finite-requires c κs = search needs
-
 nearest-whole-requires : tie.Need-nearest-whole-requires
 unfolding L round ofBits
-nearest-whole-requires c κs = tame-at c
+nearest-whole-requires c κs = small-at c
 
 signed-number-requires : tie.Need-signed-number-requires
 signed-number-requires c κs = few c
 
 two-to-requires : tie.Need-two-to-requires
 two-to-requires c κs = few (c .before)
-
-exp-steps-requires : tie.Need-exp-steps-requires
-exp-steps-requires c κs = search needs
-
-settle-requires : tie.Need-settle-requires
-settle-requires c κs = search needs
 
 returns : tie.Need-returns
 returns c =
@@ -73,11 +65,11 @@ returns c =
     (c .before .exp-steps .ensures
     ∙ ap (λ (n : Float). rawExp x n (c .before .before .two-to .result)) (c .before .before .before .signed-number .ensures ∙ ap (ofInt binary64) (k-is w))
     ∙ ap (λ (p : Float). rawExp x (ofInt binary64 k) p) (c .before .before .two-to .ensures ∙ ap twoTo (k-is w)))
-    ∙ sym (exp-check x (tame-finite (div binary64 x L) (tame-at a)))
+    ∙ sym (exp-check x (small-is-finite (div binary64 x L) (small-at a)))
     ∙ sym (inside-range a)
 
 returns-2 : tie.Need-returns-2
-unfolding exponentialRule number ofInt round neg ofBits
+unfolding exponentialRule ofInt round neg ofBits
 returns-2 c =
     let x = c .before .before .before .before .args .x in
     let f : finite x ≡ true = cc in
@@ -86,7 +78,7 @@ returns-2 c =
     rw (f, g, h)
 
 returns-3 : tie.Need-returns-3
-unfolding exponentialRule number ofInt round neg ofBits
+unfolding exponentialRule ofInt round neg ofBits
 returns-3 c =
     let x = c .before .before .before .args .x in
     let f : finite x ≡ true = cc in
@@ -103,12 +95,12 @@ pub exponential-spec : {M : Type 1} → statement M
 exponential-spec =
     tie.close
     (tie.spec
-    is-finite-requires
+    (λ c κs. search needs)
     nearest-whole-requires
     signed-number-requires
     two-to-requires
-    exp-steps-requires
-    settle-requires
+    (λ c κs. search needs)
+    (λ c κs. search needs)
     returns
     returns-2
     returns-3

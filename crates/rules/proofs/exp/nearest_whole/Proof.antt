@@ -1,4 +1,4 @@
--- `rules::nearest_whole` meets its contract. Assumes nothing.
+-- `rules::nearest_whole` meets its contract: what is shifted out is compared with one half. Assumes nothing.
 use Prim.Native.Nat.{ℕ, _+_, _-_, _*_, _/_, _%_, _^_, _≤_, _<_}
 use mathlib.Core.Path.{_≡_, sym, ap, subst, _∙_}
 use native.Mathlib.Nat.{lt-of-le-of-lt, div-mul-le-self}
@@ -40,26 +40,14 @@ float-to-bits-b c = no-nan (c .args .q) (c .pre)
 returns : tie.Need-returns
 returns c = q-low (c .before .args .q) (held (c .before)) (c .before .pre) (c .if1 .taken)
 
-add-d : tie.Need-add-d
-add-d c = search needs
-
 sub-places : tie.Need-sub-places
 sub-places c = omega (arith, field c)
-
-shl-one : tie.Need-shl-one
-shl-one c = search needs
-
-shr-w : tie.Need-shr-w
-shr-w c = search needs
 
 mul-rest : tie.Need-mul-rest
 mul-rest c = record { fits = subst (λ (o : ℕ). digits c / 2 ^ places c * o < 2 ^ 64) (sym (one c)) (lt-of-le-of-lt (div-mul-le-self (digits c) (2 ^ places c)) (omega arith)) }
 
 sub-rest : tie.Need-sub-rest
 sub-rest c = subst (λ (o : ℕ). digits c / 2 ^ places c * o ≤ digits c) (sym (one c)) (div-mul-le-self (digits c) (2 ^ places c))
-
-mul-rest-2 : tie.Need-mul-rest-2
-mul-rest-2 c = search needs
 
 add-result : tie.Need-add-result
 add-result c = let a = c .before .before in omega (arith, quotient-le (digits a) (2 ^ places a) (pow-pos (places a)))
@@ -90,13 +78,13 @@ nearest-whole-spec =
     (tie.spec
     float-to-bits-b
     returns
-    add-d
+    (λ c. search needs)
     sub-places
-    shl-one
-    shr-w
+    (λ c. search needs)
+    (λ c. search needs)
     mul-rest
     sub-rest
-    mul-rest-2
+    (λ c. search needs)
     add-result
     add-result-2
     returns-2

@@ -1,4 +1,4 @@
--- `rules::signed_number` meets its contract. Assumes nothing.
+-- `rules::signed_number` meets its contract: n or -n is a whole number that an f64 holds. Assumes nothing.
 use Prim.Native.Nat.{_^_}
 use native.Mathlib.Omega.{arith}
 use lib.Dec.{le→leb}

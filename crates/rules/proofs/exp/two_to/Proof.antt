@@ -1,4 +1,4 @@
--- `rules::two_to` meets its contract. Assumes nothing.
+-- `rules::two_to` meets its contract: a power of 2 is its exponent field. Assumes nothing.
 use Prim.Native.Nat.{_+_, _-_, _*_, _^_}
 use native.Mathlib.Omega.{arith}
 use Rattle.rules.proofs.Fields.{no-nan-bits}
@@ -7,20 +7,8 @@ use borrow.Author.Needs.{needs}
 use Rattle.rules.proofs.exp.two_to.Statement.{statement}
 use Rattle.rules.proofs.exp.two_to.Tie as tie
 
-sub-result : tie.Need-sub-result
-sub-result c = search needs
-
-mul-result : tie.Need-mul-result
-mul-result c = search needs
-
 float-from-bits-result : tie.Need-float-from-bits-result
 float-from-bits-result c = no-nan-bits ((1023 - c .before .args .n) * 2 ^ 52) (omega arith)
-
-add-result : tie.Need-add-result
-add-result c = search needs
-
-mul-result-2 : tie.Need-mul-result-2
-mul-result-2 c = search needs
 
 float-from-bits-result-2 : tie.Need-float-from-bits-result-2
 float-from-bits-result-2 c = no-nan-bits ((1023 + c .before .args .n) * 2 ^ 52) (omega arith)
@@ -35,11 +23,11 @@ pub two-to-spec : {M : Type 1} → statement M
 two-to-spec =
     tie.close
     (tie.spec
-    sub-result
-    mul-result
+    (λ c. search needs)
+    (λ c. search needs)
     float-from-bits-result
-    add-result
-    mul-result-2
+    (λ c. search needs)
+    (λ c. search needs)
     float-from-bits-result-2
     returns
     returns-2)

@@ -1,4 +1,4 @@
--- `rules::exponent` meets its contract. Assumes nothing.
+-- `rules::exponent` meets its contract: k - 1074 and its negative are whole numbers that an f64 holds. Assumes nothing.
 use Prim.Native.Nat.{ℕ, suc, _-_, _^_}
 use mathlib.Core.Path.{_≡_, ap, _∙_}
 use mathlib.Core.Bool.{true, false}
@@ -14,9 +14,6 @@ use Rattle.rules.proofs.ln.exponent.Tie as tie
 int-to-float-result : tie.Need-int-to-float-result
 unfolding inFloat
 int-to-float-result c = le→leb (c .before .before .args .k - 1074) (2 ^ 53) (omega arith)
-
-sub-result : tie.Need-sub-result
-sub-result c = search needs
 
 int-to-float-result-2 : tie.Need-int-to-float-result-2
 unfolding inFloat
@@ -34,4 +31,4 @@ returns-2 c =
 
 pub exponent-spec : {M : Type 1} → statement M
 exponent-spec =
-    tie.close (tie.spec int-to-float-result sub-result int-to-float-result-2 returns returns-2)
+    tie.close (tie.spec int-to-float-result (λ c. search needs) int-to-float-result-2 returns returns-2)

@@ -1,4 +1,4 @@
--- `rules::logarithm` meets its contract. Assumes nothing.
+-- `rules::logarithm` meets its contract: the tests choose the case, and m and e are read off the 53 digits. Assumes nothing.
 use Prim.Native.Nat.{_+_, _*_, _^_}
 use mathlib.Core.Path.{sym, ap, _∙_}
 use mathlib.Core.Logic.{⊎-elim}
@@ -7,7 +7,8 @@ use lib.Dec.{T}
 use lib.Ieee.{Float, binary64, ofBits}
 use Rattle.common.specs.Outcome.{check}
 use Rattle.rules.specs.Units.{inUnits, positive}
-use Rattle.rules.specs.Log.{rawLn, logarithmRule}
+use Rattle.rules.specs.Log.{logarithmRule}
+use Rattle.rules.specs.RawLog.{rawLn}
 use Rattle.rules.proofs.Fields.{no-nan-bits}
 use Rattle.rules.proofs.Signs.{is-zero, is-negative, is-positive, lost}
 use Rattle.rules.proofs.Logs.{ln-low, ln-high, ln-of}
@@ -19,44 +20,14 @@ positive-at : (c : tie.Else3) → T (positive (c .before .before .before .before
 unfolding ofBits
 positive-at c = is-positive (c .before .before .before .before .args .x) (cc) (c .before .if2 .left) (c .if3 .left)
 
-is-finite-requires : tie.Need-is-finite-requires
-is-finite-requires c κs = search needs
-
 unpack-requires : tie.Need-unpack-requires
 unpack-requires c κs = positive-at c
-
-add-ln-steps : tie.Need-add-ln-steps
-add-ln-steps c = search needs
 
 float-from-bits-ln-steps : tie.Need-float-from-bits-ln-steps
 float-from-bits-ln-steps c = no-nan-bits (1022 * 2 ^ 52 + c .before .before .before .unpack .result .d) (omega (arith, c .before .before .before .unpack .ensures))
 
-exponent-requires : tie.Need-exponent-requires
-exponent-requires c κs = search needs
-
-ln-steps-requires : tie.Need-ln-steps-requires
-ln-steps-requires c κs = search needs
-
-settle-requires : tie.Need-settle-requires
-settle-requires c κs = search needs
-
-add-ln-steps-2 : tie.Need-add-ln-steps-2
-add-ln-steps-2 c = search needs
-
 float-from-bits-ln-steps-2 : tie.Need-float-from-bits-ln-steps-2
 float-from-bits-ln-steps-2 c = no-nan-bits (1021 * 2 ^ 52 + c .before .before .before .unpack .result .d) (omega (arith, c .before .before .before .unpack .ensures))
-
-add-exponent : tie.Need-add-exponent
-add-exponent c = search needs
-
-exponent-requires-2 : tie.Need-exponent-requires-2
-exponent-requires-2 c κs = search needs
-
-ln-steps-requires-2 : tie.Need-ln-steps-requires-2
-ln-steps-requires-2 c κs = search needs
-
-settle-requires-2 : tie.Need-settle-requires-2
-settle-requires-2 c κs = search needs
 
 returns : tie.Need-returns
 unfolding logarithmRule ofBits
@@ -98,19 +69,19 @@ pub logarithm-spec : {M : Type 1} → statement M
 logarithm-spec =
     tie.close
     (tie.spec
-    is-finite-requires
+    (λ c κs. search needs)
     unpack-requires
-    add-ln-steps
+    (λ c. search needs)
     float-from-bits-ln-steps
-    exponent-requires
-    ln-steps-requires
-    settle-requires
-    add-ln-steps-2
+    (λ c κs. search needs)
+    (λ c κs. search needs)
+    (λ c κs. search needs)
+    (λ c. search needs)
     float-from-bits-ln-steps-2
-    add-exponent
-    exponent-requires-2
-    ln-steps-requires-2
-    settle-requires-2
+    (λ c. search needs)
+    (λ c κs. search needs)
+    (λ c κs. search needs)
+    (λ c κs. search needs)
     returns
     returns-2
     returns-3

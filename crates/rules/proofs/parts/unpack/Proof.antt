@@ -1,4 +1,4 @@
--- `rules::unpack` meets its contract. Assumes nothing.
+-- `rules::unpack` meets its contract: the exponent field says where the 53 digits stand, and a smaller number is shifted up. Assumes nothing.
 use Prim.Native.Nat.{ℕ, _-_, _*_, _%_, _^_, _≤_}
 use mathlib.Core.Path.{_≡_, sym, subst}
 use native.Mathlib.Nat.{mod-eq-of-lt}
@@ -39,9 +39,6 @@ cast-t10 c = omega (arith, within c)
 sub-t11 : tie.Need-sub-t11
 sub-t11 c = omega (arith, within c)
 
-add-t13 : tie.Need-add-t13
-add-t13 c = search needs
-
 add-t14 : tie.Need-add-t14
 add-t14 c = omega (arith, bits-lt (c .before .args .x) (held (c .before)) (c .before .pre))
 
@@ -69,7 +66,7 @@ unpack-spec =
     shl-t9
     cast-t10
     sub-t11
-    add-t13
+    (λ c. search needs)
     add-t14
     returns
     returns-2)

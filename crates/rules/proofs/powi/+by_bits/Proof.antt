@@ -9,7 +9,8 @@ use lib.Ieee.{Float, binary64, mul}
 use borrow.Author.Tests.{eq-eqb, ne-eqb}
 use borrow.Fn.Kinds.{In}
 use borrow.Fn.PlainCycle.{Measures, is, falls, and}
-use Rattle.rules.specs.Power.{ladder, rungs, times, odd}
+use Rattle.rules.specs.Power.{times, odd}
+use Rattle.rules.specs.RawPower.{rawByBits, rawHigherBits}
 use Rattle.rules.proofs.powi.by_bits.Reads as by-bits
 use Rattle.rules.proofs.powi.by_bits.Kinds as by-bits-kinds
 use Rattle.rules.proofs.powi.+by_bits.Lts-by_bits as by-bits-lts
@@ -17,14 +18,14 @@ use Rattle.rules.proofs.powi.+by_bits.{statement}
 use Rattle.rules.proofs.powi.+by_bits.Tie.{close}
 
 -- no higher bit remains
-last : (k : ℕ) (r a : Float) (n : ℕ) → n / 2 ≡ 0 → ladder k r a n ≡ times (odd n) r a
-unfolding rungs
+last : (k : ℕ) (r a : Float) (n : ℕ) → n / 2 ≡ 0 → rawByBits k r a n ≡ times (odd n) r a
+unfolding rawHigherBits
 last zero r a n h = refl
 last (suc k) r a n h = rw (eq-eqb (n / 2) 0 h)
 
 -- one remains: from its half on
-more : (k : ℕ) (r a out : Float) (n : ℕ) → (n / 2 ≡ 0 → ⊥) → n < 2 ^ suc k → ((j : ℕ) → n / 2 < 2 ^ suc j → out ≡ ladder j (times (odd n) r a) (mul binary64 a a) (n / 2)) → out ≡ ladder k r a n
-unfolding rungs
+more : (k : ℕ) (r a out : Float) (n : ℕ) → (n / 2 ≡ 0 → ⊥) → n < 2 ^ suc k → ((j : ℕ) → n / 2 < 2 ^ suc j → out ≡ rawByBits j (times (odd n) r a) (mul binary64 a a) (n / 2)) → out ≡ rawByBits k r a n
+unfolding rawHigherBits
 more zero r a out n h l e = absurd (h (omega arith))
 more (suc k) r a out n h l e =
     let half : n / 2 < 2 ^ suc k = let p : 2 ^ suc (suc k) ≡ 2 ^ suc k * 2 = pow-suc 2 (suc k) in omega arith in
@@ -66,7 +67,7 @@ by-bits-returns-2 :
 by-bits-returns-2 t c k l =
     let a = c .before .before .before .args in
     more k (a .r) (a .a) (c .by-bits .result) (a .n) (c .before .if2 .left) l
-    (λ j h. c .by-bits .ensures j h ∙ ap (λ (s : Float). ladder j s (mul binary64 (a .a) (a .a)) (a .n / 2)) (stepped t (c .before .before)))
+    (λ j h. c .by-bits .ensures j h ∙ ap (λ (s : Float). rawByBits j s (mul binary64 (a .a) (a .a)) (a .n / 2)) (stepped t (c .before .before)))
 
 pub +by-bits-spec : {M : Type 1} → statement M
 +by-bits-spec =

@@ -1,4 +1,4 @@
--- `rules::magnitude` meets its contract. Assumes nothing.
+-- `rules::magnitude` meets its contract: |n| of an i32 is below 2^32. Assumes nothing.
 use mathlib.Core.Path.{_≡_, subst}
 use mathlib.Core.Bool.{Bool, true, false}
 use Prim.Native.Nat.{_<_}
@@ -69,9 +69,6 @@ returns c =
     let f = c .before .fits .n in
     rw (clear z f (below c)) (turned z f (below c) .same)
 
-returns-2 : tie.Need-returns-2
-returns-2 c = search needs
-
 pub magnitude-spec : {M : Type 1} → statement M
 magnitude-spec =
-    tie.close (tie.spec cast-result sub-result cast-result-2 cast-result-3 returns returns-2)
+    tie.close (tie.spec cast-result sub-result cast-result-2 cast-result-3 returns (λ c. search needs))

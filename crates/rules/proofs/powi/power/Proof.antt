@@ -1,4 +1,4 @@
--- `rules::power` meets its contract. Assumes nothing.
+-- `rules::power` meets its contract: the tests, and then the raw power checked once. Assumes nothing.
 use mathlib.Core.Path.{_≡_, sym, _∙_, ap}
 use mathlib.Core.Bool.{true, false}
 use lib.Dec.{leb}
@@ -8,22 +8,11 @@ use mir.ValLaws.{toZ-ofZ}
 use borrow.Author.Needs.{needs}
 use borrow.Author.Tests.{le-leb, lt-leb}
 use Rattle.common.specs.Outcome.{finite, check}
-use Rattle.rules.specs.Power.{powerRule, rawPower}
+use Rattle.rules.specs.Power.{powerRule}
+use Rattle.rules.specs.RawPower.{rawPower}
 use Rattle.rules.proofs.Powers.{power-check}
 use Rattle.rules.proofs.powi.power.Statement.{statement}
 use Rattle.rules.proofs.powi.power.Tie as tie
-
-is-finite-requires : tie.Need-is-finite-requires
-is-finite-requires c κs = search needs
-
-magnitude-requires : tie.Need-magnitude-requires
-magnitude-requires c κs = search needs
-
-raw-power-requires : tie.Need-raw-power-requires
-raw-power-requires c κs = search needs
-
-settle-requires : tie.Need-settle-requires
-settle-requires c κs = search needs
 
 size : (c : tie.After-magnitude) → c .magnitude .result ≡ natAbs (c .before .before .before .args .n)
 size c = c .magnitude .ensures ∙ ap natAbs (toZ-ofZ w32 (c .before .before .before .args .n) (c .before .before .before .fits .n))
@@ -57,10 +46,10 @@ pub power-spec : {M : Type 1} → statement M
 power-spec =
     tie.close
     (tie.spec
-    is-finite-requires
-    magnitude-requires
-    raw-power-requires
-    settle-requires
+    (λ c κs. search needs)
+    (λ c κs. search needs)
+    (λ c κs. search needs)
+    (λ c κs. search needs)
     returns
     returns-2
     returns-3)

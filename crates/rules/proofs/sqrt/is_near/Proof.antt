@@ -1,4 +1,4 @@
--- `rules::is_near` meets its contract. Assumes nothing.
+-- `rules::is_near` meets its contract: with r = a * 2^27 + b, what r*r leaves is worked from the left. Assumes nothing.
 use Prim.Native.Nat.{_/_, _%_, _^_}
 use mathlib.Core.Path.{sym}
 use native.Mathlib.Omega.{arith}
@@ -12,23 +12,11 @@ use Rattle.rules.proofs.sqrt.is_near.Tie as tie
 mul-square : tie.Need-mul-square
 mul-square c = record { fits = product-fits (c .args .r / 2 ^ 27) (c .args .r / 2 ^ 27) (omega arith) (omega arith) }
 
-add-h : tie.Need-add-h
-add-h c = search needs
-
 returns : tie.Need-returns
 returns c = λ e. never (sym e)
 
 returns-2 : tie.Need-returns-2
 returns-2 c = λ e. never (sym e)
-
-mul-t : tie.Need-mul-t
-mul-t c = search needs
-
-mul-t-2 : tie.Need-mul-t-2
-mul-t-2 c = search needs
-
-add-t : tie.Need-add-t
-add-t c = search needs
 
 mul-u : tie.Need-mul-u
 mul-u c = let r = c .before .before .args .r in record { fits = product-fits (r / 2 ^ 27) (r % 2 ^ 27) (omega arith) (omega arith) }
@@ -39,20 +27,11 @@ returns-3 c = λ e. never (sym e)
 returns-4 : tie.Need-returns-4
 returns-4 c = λ e. never (sym e)
 
-mul-more : tie.Need-mul-more
-mul-more c = search needs
-
 mul-less : tie.Need-mul-less
 mul-less c = let r = c .before .before .before .before .args .r in record { fits = product-fits (r % 2 ^ 27) (r % 2 ^ 27) (omega arith) (omega arith) }
 
 add-less : tie.Need-add-less
 add-less c = let r = c .before .before .before .before .args .r in omega (arith, small-product (r % 2 ^ 27) (omega arith))
-
-add-if5 : tie.Need-add-if5
-add-if5 c = search needs
-
-add-result : tie.Need-add-result
-add-result c = search needs
 
 returns-5 : tie.Need-returns-5
 returns-5 c =
@@ -68,19 +47,19 @@ is-near-spec =
     tie.close
     (tie.spec
     mul-square
-    add-h
+    (λ c. search needs)
     returns
     returns-2
-    mul-t
-    mul-t-2
-    add-t
+    (λ c. search needs)
+    (λ c. search needs)
+    (λ c. search needs)
     mul-u
     returns-3
     returns-4
-    mul-more
+    (λ c. search needs)
     mul-less
     add-less
-    add-if5
-    add-result
+    (λ c. search needs)
+    (λ c. search needs)
     returns-5
     returns-6)

@@ -1,4 +1,4 @@
--- `rules::positive_root` meets its contract. Assumes nothing.
+-- `rules::positive_root` meets its contract: the root of the 53 or 54 digits, with half the places. Assumes nothing.
 use Prim.Native.Nat.{ℕ, _+_, _*_, _/_, _^_, _≤_, _<_}
 use mathlib.Core.Path.{sym, subst, _∙_}
 use native.Mathlib.Omega.{arith}
@@ -8,18 +8,6 @@ use mathlib.Core.Logic.{⊎-elim}
 use borrow.Author.Needs.{needs}
 use Rattle.rules.proofs.sqrt.positive_root.Statement.{statement}
 use Rattle.rules.proofs.sqrt.positive_root.Tie as tie
-
-unpack-requires : tie.Need-unpack-requires
-unpack-requires c κs = search needs
-
-mul-d : tie.Need-mul-d
-mul-d c = search needs
-
-add-k : tie.Need-add-k
-add-k c = search needs
-
-mul-result : tie.Need-mul-result
-mul-result c = search needs
 
 half : (j : tie.Joined1) → Half (j .before .before .unpack .result .d) (j .before .before .unpack .result .e) (j .if1 .d)
 half j =
@@ -56,10 +44,10 @@ pub positive-root-spec : {M : Type 1} → statement M
 positive-root-spec =
     tie.close
     (tie.spec
-    unpack-requires
-    mul-d
-    add-k
-    mul-result
+    (λ c κs. search needs)
+    (λ c. search needs)
+    (λ c. search needs)
+    (λ c. search needs)
     near-root-requires
     add-result
     float-from-bits-result

@@ -1,18 +1,12 @@
--- `rules::raw_root` meets its contract. Assumes nothing.
+-- `rules::raw_root` meets its contract: it is the number of the answer, or a NaN. Assumes nothing.
 use mathlib.Core.Path.{_∙_, ap}
 use Rattle.common.specs.Outcome.{orNan}
 use borrow.Author.Needs.{needs}
 use Rattle.rules.proofs.sqrt.raw_root.Statement.{statement}
 use Rattle.rules.proofs.sqrt.raw_root.Tie as tie
 
-root-requires : tie.Need-root-requires
-root-requires c κs = search needs
-
-or-nan-requires : tie.Need-or-nan-requires
-or-nan-requires c κs = search needs
-
 returns : tie.Need-returns
 returns c = c .or-nan .ensures ∙ ap orNan (c .before .root .ensures)
 
 pub raw-root-spec : {M : Type 1} → statement M
-raw-root-spec = tie.close (tie.spec root-requires or-nan-requires returns)
+raw-root-spec = tie.close (tie.spec (λ c κs. search needs) (λ c κs. search needs) returns)

@@ -1,4 +1,4 @@
--- `rules::root` meets its contract. Assumes nothing.
+-- `rules::root` meets its contract: the tests choose the case. Assumes nothing.
 use mathlib.Core.Path.{ap, _∙_}
 use mathlib.Core.Logic.{⊎-elim}
 use lib.Ieee.{ofBits}
@@ -8,9 +8,6 @@ use Rattle.rules.proofs.Signs.{is-zero, is-negative, is-positive, above
 use borrow.Author.Needs.{needs}
 use Rattle.rules.proofs.sqrt.root.Statement.{statement}
 use Rattle.rules.proofs.sqrt.root.Tie as tie
-
-is-finite-requires : tie.Need-is-finite-requires
-is-finite-requires c κs = search needs
 
 positive-root-requires : tie.Need-positive-root-requires
 unfolding ofBits
@@ -46,4 +43,4 @@ returns-4 c =
 pub root-spec : {M : Type 1} → statement M
 root-spec =
     tie.close
-    (tie.spec is-finite-requires positive-root-requires returns returns-2 returns-3 returns-4)
+    (tie.spec (λ c κs. search needs) positive-root-requires returns returns-2 returns-3 returns-4)

@@ -5,8 +5,8 @@ use borrow.Author.Needs.{needs}
 use Rattle.common.specs.Outcome.{Outcome, value, check, then}
 use Rattle.common.specs.Answer.{paper}
 use Rattle.common.specs.declared.Answer.{Answer}
-use Rattle.state.proofs.Laws.{through}
-use Rattle.volume.specs.Found.{State, stateOf}
+use Rattle.record.proofs.Laws.{through}
+use Rattle.volume.specs.Volumes.{State, stateOf}
 use Rattle.volume.proofs.region3_v_pT.found.Statement.{statement}
 use Rattle.volume.proofs.region3_v_pT.found.Tie as tie
 

@@ -3,9 +3,9 @@ use mathlib.Core.Path.{sym, ap, _∙_}
 use lib.Ieee.{ofBits, round}
 use borrow.Author.Needs.{needs}
 use Rattle.common.specs.Decimal.{decimal, whole, scaled}
-use Rattle.volume.specs.declared.Origin.{Origin}
-use Rattle.volume.specs.declared.Origin.the-variants.{Subregion}
-use Rattle.volume.specs.Found.{stateOf, stateBy}
+use Rattle.record.specs.declared.Origin.{Origin}
+use Rattle.record.specs.declared.Origin.the-variants.{Subregion}
+use Rattle.volume.specs.Volumes.{stateOf, stateBy}
 use Rattle.volume.proofs.region3_v_pT.found_by.Statement.{statement}
 use Rattle.volume.proofs.region3_v_pT.found_by.Tie as tie
 
@@ -16,7 +16,7 @@ returns c =
     let a = k .before .before .args in
     c .found .ensures
     ∙ ap (stateOf (Subregion (k .o .given .0 .0))) (c .before .raw-volume .ensures)
-    ∙ sym (ap (λ (o : Origin). stateBy o (a .p) (a .t)) (k .o .given .1))
+    ∙ sym (ap (λ (o : Origin). stateBy o (a .p .0) (a .t .0)) (k .o .given .1))
 
 returns-2 : tie.Need-returns-2
 unfolding stateBy ofBits decimal whole scaled round

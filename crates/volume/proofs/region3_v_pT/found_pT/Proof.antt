@@ -2,19 +2,19 @@
 use mathlib.Core.Path.{_≡_, sym, ap, _∙_}
 use borrow.Author.Needs.{needs}
 use Rattle.common.specs.Outcome.{Outcome, then}
-use Rattle.volume.specs.declared.Origin.{Origin}
-use Rattle.volume.specs.declared.Whence.{Whence}
-use Rattle.volume.specs.Found.{whenceIn, stateBy, foundRule}
+use Rattle.record.specs.declared.Origin.{Origin}
+use Rattle.volume.specs.declared.OriginAnswer.{OriginAnswer}
+use Rattle.volume.specs.Volumes.{paperOrigin, stateBy, foundRule}
 use Rattle.volume.proofs.region3_v_pT.found_pT.Statement.{statement}
 use Rattle.volume.proofs.region3_v_pT.found_pT.Tie as tie
 
 -- the rule, from the origin that was found
-answered : (c : tie.After-origin-pT) (w : Whence) → c .origin-pT .result ≡ w
-    → foundRule (c .before .args .p .0) (c .before .args .t .0) ≡ then (whenceIn w) (λ o. stateBy o (c .before .args .p .0) (c .before .args .t .0))
+answered : (c : tie.After-origin-pT) (w : OriginAnswer) → c .origin-pT .result ≡ w
+    → foundRule (c .before .args .p .0) (c .before .args .t .0) ≡ then (paperOrigin w) (λ o. stateBy o (c .before .args .p .0) (c .before .args .t .0))
 unfolding foundRule
 answered c w e =
     let a = c .before .args in
-    ap (λ (q : Outcome Origin). then q (λ o. stateBy o (a .p .0) (a .t .0))) (sym (c .origin-pT .ensures) ∙ ap whenceIn e)
+    ap (λ (q : Outcome Origin). then q (λ o. stateBy o (a .p .0) (a .t .0))) (sym (c .origin-pT .ensures) ∙ ap paperOrigin e)
 
 returns : tie.Need-returns
 returns c = c .found-by .ensures ∙ sym (answered (c .before .before .before .before) _ (c .before .before .o .given .1))

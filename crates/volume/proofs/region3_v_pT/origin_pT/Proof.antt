@@ -1,14 +1,10 @@
 -- `volume::origin_pT` meets its contract: the box, then the steps. Assumes nothing.
-use mathlib.Core.Path.{sym, ap, _∙_}
+use mathlib.Core.Path.{sym, _∙_}
 use borrow.Author.Needs.{needs}
-use Rattle.common.specs.Answer.{verdict}
 use Rattle.common.proofs.Calls.{going-on, turned-away}
-use Rattle.volume.specs.Found.{originRule}
+use Rattle.volume.specs.Volumes.{originRule}
 use Rattle.volume.proofs.region3_v_pT.origin_pT.Statement.{statement}
 use Rattle.volume.proofs.region3_v_pT.origin_pT.Tie as tie
-
-origin-at-requires : tie.Need-origin-at-requires
-origin-at-requires c κs = sym (c .before .before .check-pT .ensures) ∙ ap verdict (c .enum-told .given .1)
 
 returns : tie.Need-returns
 unfolding originRule
@@ -20,4 +16,4 @@ returns-2 c = sym (turned-away (c .before .before .before .check-pT .ensures) _ 
 
 pub origin-pT-spec : {M : Type 1} → statement M
 origin-pT-spec =
-    tie.close (tie.spec (λ c κs. search needs) (λ c. search needs) origin-at-requires (λ c. search needs) returns returns-2)
+    tie.close (tie.spec (λ c κs. search needs) (λ c. search needs) (λ c κs. search needs) (λ c. search needs) returns returns-2)

@@ -2,8 +2,8 @@
 use mathlib.Core.Path.{sym, ap, _∙_}
 use borrow.Author.Needs.{needs}
 use Rattle.common.proofs.Calls.{going-on, turned-away}
-use Rattle.state.specs.State.{volumeOf}
-use Rattle.volume.specs.Found.{pT2v-3subregRule}
+use Rattle.record.specs.State.{volumeOf}
+use Rattle.volume.specs.Volumes.{pT2v-3subregRule}
 use Rattle.volume.proofs.region3_v_pT.pT2v_3subreg.Statement.{statement}
 use Rattle.volume.proofs.region3_v_pT.pT2v_3subreg.Tie as tie
 

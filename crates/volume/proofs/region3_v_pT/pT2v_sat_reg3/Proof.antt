@@ -3,13 +3,12 @@ use mathlib.Core.Path.{sym, ap, _∙_}
 use lib.Ieee.{ofBits}
 use borrow.Author.Needs.{needs}
 use Rattle.common.specs.Decimal.{decimal, scaled}
-use Rattle.common.specs.Constant.{P-FROM, P-MAX4, T-FROM, T-MAX4}
-use Rattle.common.specs.Range.{pairRule}
+use Rattle.common.specs.Range.{saturatedBox}
 use Rattle.common.proofs.Calls.{going-on, turned-away}
-use Rattle.state.specs.State.{volumeOf}
-use Rattle.letter.specs.declared.Letter.{Letter}
+use Rattle.record.specs.State.{volumeOf}
+use Rattle.subregion.specs.declared.Letter.{Letter}
 use Rattle.volume.specs.Equation.{volumeAt}
-use Rattle.volume.specs.Found.{pT2v-sat-reg3Rule}
+use Rattle.volume.specs.Volumes.{pT2v-sat-reg3Rule}
 use Rattle.volume.proofs.region3_v_pT.pT2v_sat_reg3.Statement.{statement}
 use Rattle.volume.proofs.region3_v_pT.pT2v_sat_reg3.Tie as tie
 
@@ -20,7 +19,7 @@ returns c =
     let a = s .before .before .before .args in
     c .settle-v .ensures
     ∙ ap volumeOf (c .before .raw-volume .ensures ∙ ap (λ (l : Letter). volumeAt l (a .p .0) (a .t .0)) (c .before .before .saturated .ensures))
-    ∙ sym (going-on {o = pairRule P-FROM P-MAX4 (a .p .0) T-FROM T-MAX4 (a .t .0)} (s .before .before .check-pair .ensures) _ (s .enum-told .given .1))
+    ∙ sym (going-on {o = saturatedBox (a .p .0) (a .t .0)} (s .before .before .check-pair .ensures) _ (s .enum-told .given .1))
 
 returns-2 : tie.Need-returns-2
 unfolding pT2v-sat-reg3Rule ofBits decimal scaled

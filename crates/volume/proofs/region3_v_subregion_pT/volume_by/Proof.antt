@@ -1,4 +1,7 @@
 -- `volume::volume_by` meets its contract: each arm's proof has the shape of its equation. Assumes nothing.
+use Rattle.algo.proofs.Step.{raw-sumOf}
+use Rattle.common.proofs.Formulas.{raw-first, raw-less, raw-times, named}
+use Rattle.common.specs.Formula.{Raw}
 use mathlib.Core.Path.{sym, ap, _∙_, subst}
 use lib.Dec.{T}
 use lib.IntN.{pos}
@@ -6,10 +9,9 @@ use lib.Ieee.{Float, binary64, div, sub, fits}
 use lib.Ieee.Fits.{sub-fits}
 use borrow.Author.Needs.{needs}
 use Rattle.common.specs.Outcome.{orNan}
-use Rattle.rules.proofs.Formulas.{Raw, raw-powerOf, raw-rootOf, raw-exponentialOf}
+use Rattle.rules.proofs.Formulas.{raw-powerOf, raw-rootOf, raw-exponentialOf}
 use Rattle.tables.specs.Summed.{summed}
 use Rattle.volume.specs.Equation.{less, volumeBy}
-use Rattle.state.proofs.Laws.{raw-sumOf, raw-first, raw-less, raw-times, named}
 use Rattle.volume.proofs.region3_v_subregion_pT.volume_by.Statement.{statement}
 use Rattle.volume.proofs.region3_v_subregion_pT.volume_by.Tie as tie
 

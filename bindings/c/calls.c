@@ -1,0 +1,204 @@
+// Calls every function of region3.h on a million rows and prints for each a hash of all that it answered: refusals, numbers, letters, bit by bit.
+// bindings/c/calls.hashes has what the x86-64 archive gave; tools/native holds an archive for another processor to it. The rows come from a
+// written generator: most lie in or just outside the ranges, one in sixteen is any pattern of bits, one an end of a range.
+// Compile with -ffp-contract=off, so that the rows are the same everywhere. With -DALONE it needs no C library.
+#include "region3.h"
+
+typedef unsigned long word;
+
+#ifdef ALONE
+void *memset(void *to, int byte, r3_size n) {
+    for (r3_size i = 0; i < n; i++) ((volatile r3_byte *)to)[i] = (r3_byte)byte;
+    return to;
+}
+
+static void put(const char *text, r3_size n) {
+#if defined(__x86_64__)
+    long number = 1;
+    __asm__ volatile("syscall" : "+a"(number) : "D"(1), "S"(text), "d"(n) : "rcx", "r11", "memory");
+#elif defined(__aarch64__)
+    register long number __asm__("x8") = 64, to __asm__("x0") = 1, length __asm__("x2") = (long)n;
+    register const char *from __asm__("x1") = text;
+    __asm__ volatile("svc 0" : "+r"(to) : "r"(number), "r"(from), "r"(length) : "memory");
+#else
+#error "the system calls of this processor are not known here"
+#endif
+}
+
+static void leave(void) {
+#if defined(__x86_64__)
+    __asm__ volatile("syscall" : : "a"(231), "D"(0));
+#elif defined(__aarch64__)
+    register long number __asm__("x8") = 94, status __asm__("x0") = 0;
+    __asm__ volatile("svc 0" : : "r"(number), "r"(status));
+#endif
+}
+#else
+long write(int, const void *, r3_size);
+static void put(const char *text, r3_size n) { (void)!write(1, text, n); }
+#endif
+
+enum { ROWS = 1000000, PAGE = 1000 };
+
+static word state;
+static word next(void) {
+    word z = state += 0x9e3779b97f4a7c15;
+    z = (z ^ z >> 30) * 0xbf58476d1ce4e5b9;
+    z = (z ^ z >> 27) * 0x94d049bb133111eb;
+    return z ^ z >> 31;
+}
+
+union bits {
+    word w;
+    double x;
+};
+
+// A number in or around a range.
+static double any(double from, double to) {
+    word z = next();
+    switch (z & 15) {
+    case 0: {
+        union bits b = {next()};
+        return b.x;
+    }
+    case 1: return z & 16 ? from : to;
+    }
+    double wide = (to - from) * 0.02;
+    return from - wide + (to - from + 2 * wide) * (double)(z >> 11) * 0x1p-53;
+}
+
+static word hash;
+static void mix(word w) {
+    hash = (hash ^ w) * 0x9e3779b97f4a7c15;
+    hash ^= hash >> 32;
+}
+
+static void mix_number(double x) {
+    union bits b;
+    b.x = x;
+    mix(b.w);
+}
+
+static void begin(word seed) {
+    state = seed;
+    hash = 0;
+}
+
+static void say(const char *name) {
+    char line[64];
+    r3_size n = 0;
+    while (name[n]) {
+        line[n] = name[n];
+        n++;
+    }
+    line[n++] = ' ';
+    for (int k = 60; k >= 0; k -= 4) line[n++] = "0123456789abcdef"[hash >> k & 15];
+    line[n++] = '\n';
+    put(line, n);
+}
+
+static void records(const char *name, word seed, r3_byte (*call)(double, double, double *), double a0, double a1, double b0, double b1) {
+    begin(seed);
+    for (int i = 0; i < ROWS; i++) {
+        double out[R3_FIELDS], a = any(a0, a1), b = any(b0, b1);
+        mix(call(a, b, out));
+        for (int k = 0; k < R3_FIELDS; k++) mix_number(out[k]);
+    }
+    say(name);
+}
+
+static void numbers(const char *name, word seed, r3_byte (*call)(double, double *), double from, double to) {
+    begin(seed);
+    for (int i = 0; i < ROWS; i++) {
+        double out, x = any(from, to);
+        mix(call(x, &out));
+        mix_number(out);
+    }
+    say(name);
+}
+
+static void powers(void) {
+    begin(11);
+    for (int i = 0; i < ROWS; i++) {
+        double out, a = any(-3, 3);
+        int n = (int)(next() % 133) - 66;
+        mix(r3_power(a, n, &out));
+        mix_number(out);
+    }
+    say("r3_power");
+}
+
+static void properties(void) {
+    begin(12);
+    for (int i = 0; i < ROWS; i++) {
+        double out, t = any(623.15, 863.15), d = any(100, 800);
+        int n = (int)(next() % 38) - 1;
+        mix(r3_property(n, t, d, &out));
+        mix_number(out);
+    }
+    say("r3_property");
+}
+
+static void letters(void) {
+    begin(13);
+    for (int i = 0; i < ROWS; i++) {
+        int narrow = i & 1; // every other row around the critical point, where the letters are small
+        double p = narrow ? any(21, 25) : any(16.529, 100), t = narrow ? any(640, 680) : any(623.15, 863.15);
+        r3_byte letter;
+        mix(r3_letter(p, t, &letter));
+        mix(letter);
+    }
+    say("r3_letter");
+}
+
+static void columns(void) {
+    static double p[PAGE], t[PAGE], density[PAGE];
+    static r3_byte letter[PAGE], refusal[PAGE];
+    begin(14);
+    for (int page = 0; page < ROWS / PAGE; page++) {
+        for (int i = 0; i < PAGE; i++) {
+            int narrow = i & 1;
+            p[i] = narrow ? any(21, 25) : any(16.529, 100);
+            t[i] = narrow ? any(640, 680) : any(623.15, 863.15);
+        }
+        mix(r3_columns(p, PAGE, t, PAGE, letter, PAGE, density, PAGE, refusal, PAGE));
+        for (int i = 0; i < PAGE; i++) {
+            mix(letter[i] + 256ul * refusal[i]);
+            mix_number(density[i]);
+        }
+    }
+    say("r3_columns");
+}
+
+static void all(void) {
+    records("r3_td", 1, r3_td, 623.15, 863.15, 100, 800);
+    records("r3_pt", 2, r3_pt, 16.529, 100, 623.15, 863.15);
+    records("r3_ph", 3, r3_ph, 16.529, 100, 1500, 2900);
+    records("r3_ps", 4, r3_ps, 16.529, 100, 3.3, 5.3);
+    records("r3_hs", 5, r3_hs, 1500, 2900, 3.3, 5.3);
+    numbers("r3_p_saturation", 6, r3_p_saturation, 623.15, 647.096);
+    numbers("r3_t_saturation", 7, r3_t_saturation, 16.529, 22.064);
+    numbers("r3_root", 8, r3_root, 0, 100);
+    numbers("r3_logarithm", 9, r3_logarithm, 0, 100);
+    numbers("r3_exponential", 10, r3_exponential, -700, 700);
+    powers();
+    properties();
+    letters();
+    columns();
+}
+
+#ifdef ALONE
+#if defined(__x86_64__)
+__attribute__((force_align_arg_pointer))
+#endif
+void _start(void) {
+    all();
+    leave();
+    __builtin_unreachable();
+}
+#else
+int main(void) {
+    all();
+    return 0;
+}
+#endif

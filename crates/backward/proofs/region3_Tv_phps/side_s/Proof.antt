@@ -1,0 +1,16 @@
+-- `backward::side_s` meets its contract: by the comparison with the critical entropy. Assumes nothing.
+use lib.Ieee.{ofBits}
+use Rattle.common.specs.Decimal.{decimal, scaled}
+use Rattle.backward.proofs.region3_Tv_phps.side_s.Statement.{statement}
+use Rattle.backward.proofs.region3_Tv_phps.side_s.Tie as tie
+
+returns : tie.Need-returns
+unfolding ofBits decimal scaled
+returns c = rw (c .if1 .taken)
+
+returns-2 : tie.Need-returns-2
+unfolding ofBits decimal scaled
+returns-2 c = rw (c .if1 .left)
+
+pub side-s-spec : {M : Type 1} → statement M
+side-s-spec = tie.close (tie.spec returns returns-2)

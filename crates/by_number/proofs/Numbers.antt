@@ -1,0 +1,40 @@
+-- The property of a number: which formula a known number has, that any other has none, and what an arm of the match answers.
+use mathlib.Core.Path.{_≡_, refl, sym, ap, _∙_}
+use mathlib.Core.Bool.{false}
+use mathlib.Core.List.{List, [], _∷_}
+use Prim.Native.Nat.{ℕ}
+use lib.IntN.{ℤ, pos, negsuc}
+use lib.Ieee.{Float}
+use mir.Syntax.{w32}
+use mir.Val.{SFits, ofZ, toZ}
+use mir.Facts.{toZ-ofZ}
+use borrow.Author.Tests.{ne-eqb}
+use Rattle.common.specs.Outcome.{Outcome, refused, then}
+use Rattle.common.proofs.Arms.{Rest, NoneOf, none-of}
+use Rattle.properties.specs.Td.{Formula}
+use Rattle.by_number.specs.Property.{Named, named, isNumber, properties, formulaIn, propertyRule, boxed, called}
+
+-- the match goes by the number's bits
+pub numbered : {n : ℤ} {k : ℕ} → SFits w32 n → ofZ w32 n ≡ k → (t d : Float) → propertyRule n t d ≡ propertyRule (toZ w32 k) t d
+numbered f h t d = ap (λ (m : ℤ). propertyRule m t d) (sym (toZ-ofZ f) ∙ ap (toZ w32) h)
+
+-- the numbers of a list of properties
+abbrev pub keys : List Named → List ℕ
+keys [] = []
+keys (named k f ∷ rs) = k ∷ keys rs
+
+other : (k : ℕ) (n : ℤ) → (ofZ w32 n ≡ k → ⊥) → isNumber k n ≡ false
+other k (pos m) h = ne-eqb m k h
+other k (negsuc m) h = refl
+
+none : (n : ℤ) (rs : List Named) → NoneOf (ofZ w32 n) (keys rs) → formulaIn rs n ≡ refused 6
+none n [] p = refl
+none n (named k f ∷ rs) p = rw (other k n (p .0)) (none n rs (p .1))
+
+-- a number that is none of the 25, as the last arm of the match knows it
+pub unknown : (n : ℤ) (t d : Float) → Rest Unit (ofZ w32 n) (keys properties) → refused 6 ≡ propertyRule n t d
+unknown n t d p = sym (ap (λ (o : Outcome Formula). then o (λ f. called f t d)) (none n properties (none-of (ofZ w32 n) (keys properties) p)))
+
+-- what an arm answers
+pub arm : (t d : Float) {p q a o : Outcome Float} → p ≡ boxed t d o → q ≡ boxed t d a → a ≡ o → q ≡ p
+arm t d number e h = e ∙ ap (boxed t d) h ∙ sym number

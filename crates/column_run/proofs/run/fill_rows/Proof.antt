@@ -1,0 +1,108 @@
+-- `column_run::fill_rows` meets its contract: after i turns the first i rows of each column are written, and the others hold their
+-- marks. Assumes nothing.
+use Prim.Native.Nat.{_≤_, _<_, _-_}
+use mathlib.Core.Path.{_≡_, refl, ap, _∙_}
+use native.Mathlib.Omega.{arith}
+use lib.ListN.{length, getD}
+use lib.Ieee.{nan}
+use borrow.Author.Needs.{needs}
+use Rattle.volume.specs.Volumes.{originRule}
+use Rattle.column_run.specs.declared.Line.{Line}
+use Rattle.column_run.specs.Columns.{rowRule, letterIn, densityIn, refusalIn}
+use Rattle.column_run.specs.TwoTurns.{markIn, stopIn}
+use Rattle.column_run.proofs.TwoTurns.{row-is}
+use Rattle.column_run.proofs.Rows.{Filled, filled-none, filled-more, filled-all, Left, left-all, left-less, rows-long}
+use Rattle.column_run.proofs.run.fill_rows.Statement.{statement}
+use Rattle.column_run.proofs.run.fill_rows.Tie as tie
+
+abbrev Inv-loop : tie.InvT-loop
+Inv-loop ps ts letters₀ densities₀ refusals₀ i₀ letters densities refusals i =
+    (i ≤ length ps) × Filled letterIn 0 ps ts i letters × Filled densityIn nan ps ts i densities × Filled refusalIn 0 ps ts i refusals
+    × Left markIn 0 ps ts i letters × Left stopIn 0 ps ts i refusals
+
+abbrev μ-loop : tie.MeasureT-loop
+μ-loop ps ts letters₀ densities₀ refusals₀ i₀ letters densities refusals i = length ps - i
+
+loop-holds : tie.Need-loop-holds Inv-loop μ-loop
+loop-holds c =
+    let s = c .before .before .before .before .before in
+    let a = s .args in (
+      omega arith,
+      filled-none letterIn 0 (a .ps .now) (a .ts .now) (a .letters .now) (rows-long markIn 0 (a .ps .now) (a .ts .now) (a .letters .now) (s .pre .0) (s .pre .2)),
+      filled-none densityIn nan (a .ps .now) (a .ts .now) (a .densities .now) (s .pre .1),
+      filled-none refusalIn 0 (a .ps .now) (a .ts .now) (a .refusals .now) (rows-long stopIn 0 (a .ps .now) (a .ts .now) (a .refusals .now) (s .pre .0) (s .pre .3)),
+      left-all markIn 0 (a .ps .now) (a .ts .now) (a .letters .now) (s .pre .0) (s .pre .2),
+      left-all stopIn 0 (a .ps .now) (a .ts .now) (a .refusals .now) (s .pre .0) (s .pre .3),
+    )
+
+loop-again : tie.Need-loop-again Inv-loop μ-loop
+loop-again c =
+    let l = c .before .before .before .before .before .before in
+    let a = l .before .before .before .before .before .before .args in
+    let i = l .loop .i in
+    let h : i < length (a .ps .now) = omega arith in
+    let p = getD (a .ps .now) i nan in
+    let t = getD (a .ts .now) i nan in
+    let m : getD (l .loop .letters) i 0 ≡ markIn p t = l .loop .inv .4 .each i (omega arith) h in
+    let k : getD (l .loop .refusals) i 0 ≡ stopIn p t = l .loop .inv .5 .each i (omega arith) h in
+    let e : c .line-of .result ≡ rowRule p t = c .line-of .ensures ∙ rw (m, k) (row-is (originRule p t) p t refl) in (
+      omega arith,
+      filled-more letterIn 0 (a .ps .now) (a .ts .now) i (l .loop .letters) (c .line-of .result .letter) h (l .loop .inv .1) (ap (λ (r : Line). r .letter) e),
+      filled-more densityIn nan (a .ps .now) (a .ts .now) i (l .loop .densities) (c .line-of .result .density) h (l .loop .inv .2) (ap (λ (r : Line). r .density) e),
+      filled-more refusalIn 0 (a .ps .now) (a .ts .now) i (l .loop .refusals) (c .line-of .result .refusal) h (l .loop .inv .3) (ap (λ (r : Line). r .refusal) e),
+      left-less markIn 0 (a .ps .now) (a .ts .now) i (l .loop .letters) (c .line-of .result .letter) (l .loop .inv .4),
+      left-less stopIn 0 (a .ps .now) (a .ts .now) i (l .loop .refusals) (c .line-of .result .refusal) (l .loop .inv .5),
+    )
+
+same-length : tie.Need-same-length Inv-loop μ-loop
+same-length c =
+    let s = c .before .before .before .before .before .before .before in
+    let a = s .args in
+    let e = rows-long markIn 0 (a .ps .now) (a .ts .now) (a .letters .now) (s .pre .0) (s .pre .2) in
+    omega arith
+
+same-length-3 : tie.Need-same-length-3 Inv-loop μ-loop
+same-length-3 c =
+    let s = c .before .before .before .before .before .before .before in
+    let a = s .args in
+    let e = rows-long stopIn 0 (a .ps .now) (a .ts .now) (a .refusals .now) (s .pre .0) (s .pre .3) in
+    omega arith
+
+returns : tie.Need-returns Inv-loop μ-loop
+returns c =
+    let l = c .before in
+    let s = l .before .before .before .before .before .before in
+    let a = s .args in
+    let i = l .loop .i in (
+      filled-all letterIn 0 (a .ps .now) (a .ts .now) i (l .loop .letters) (s .pre .0) (c .loop-test .left) (l .loop .inv .1),
+      (
+        filled-all densityIn nan (a .ps .now) (a .ts .now) i (l .loop .densities) (s .pre .0) (c .loop-test .left) (l .loop .inv .2),
+        filled-all refusalIn 0 (a .ps .now) (a .ts .now) i (l .loop .refusals) (s .pre .0) (c .loop-test .left) (l .loop .inv .3),
+      ),
+    )
+
+pub fill-rows-spec : {M : Type 1} → statement M
+fill-rows-spec =
+    tie.close
+    (tie.spec
+    Inv-loop
+    μ-loop
+    loop-holds
+    (λ c. omega arith)
+    (λ c. omega arith)
+    (λ c. omega arith)
+    (λ c. omega arith)
+    (λ c. omega arith)
+    (λ c. omega arith)
+    (λ c κs. search needs)
+    (λ c. omega arith)
+    (λ c. omega arith)
+    (λ c. omega arith)
+    (λ c. omega arith)
+    (λ c. omega arith)
+    (λ c. omega arith)
+    loop-again
+    same-length
+    (λ c. omega arith)
+    same-length-3
+    returns)

@@ -1,0 +1,39 @@
+-- Each contract admits one answer and one content of the lent page. The theorems are about the contracts' own readings, `Reads.Post`.
+-- Assumes nothing.
+use mathlib.Core.Path.{_≡_, sym, ap, _∙_}
+use Prim.Native.Nat.{ℕ}
+use lib.Seq.{sets}
+use denote.Ref.{now}
+use contract.Lifetimes.{Lfts}
+use denote.Triple.Clauses.{AtExit}
+use borrow.Fn.Kinds.{Dens, endedOf, resT}
+use Rattle.common.proofs.Same.{One}
+use Rattle.entries.specs.Rows.{repliesTo}
+use Rattle.entries.proofs.numbers.entry_of.Kinds as entry-of-kinds
+use Rattle.entries.proofs.numbers.entry_of.Reads as entry-of
+use Rattle.entries.proofs.call.answer.Kinds as answer-kinds
+use Rattle.entries.proofs.call.answer.Reads as answer
+use Rattle.entries.proofs.shape.number_at.Kinds as number-at-kinds
+use Rattle.entries.proofs.shape.number_at.Reads as number-at
+use Rattle.entries.proofs.stored.agrees.Kinds as agrees-kinds
+use Rattle.entries.proofs.stored.agrees.Reads as agrees
+use Rattle.entries.proofs.page.answer_rows.Kinds as answer-rows-kinds
+use Rattle.entries.proofs.page.answer_rows.Reads as answer-rows
+
+pub entry-of-one : One 0 entry-of-kinds.ps entry-of-kinds.r entry-of.Post
+entry-of-one κs a e x y p q = p ∙ sym q
+
+pub answer-one : One 0 answer-kinds.ps answer-kinds.r answer.Post
+answer-one κs a e x y p q = p ∙ sym q
+
+pub number-at-one : One 0 number-at-kinds.ps number-at-kinds.r number-at.Post
+number-at-one κs a e x y p q = p ∙ sym q
+
+pub agrees-one : One 1 agrees-kinds.ps agrees-kinds.r agrees.Post
+agrees-one κs a e x y p q = p ∙ sym q
+
+pub answer-rows-one : (κs : Lfts 2) (a : Dens κs answer-rows-kinds.ps) (d e : AtExit (endedOf 2 answer-rows-kinds.ps answer-rows-kinds.r) κs) (x y : resT answer-rows-kinds.r κs .Denot) →
+    answer-rows.Post κs a x d → answer-rows.Post κs a y e → (x ≡ y) × (now (d .1 .0) ≡ now (e .1 .0))
+answer-rows-one κs a d e x y p q =
+    let n : x ≡ y = p .0 ∙ sym (q .0) in
+    (n, p .1 ∙ ap (λ (k : ℕ). sets (now (a .1 .0)) 0 (repliesTo (now (a .0)) k)) n ∙ sym (q .1))

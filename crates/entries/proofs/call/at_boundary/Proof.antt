@@ -1,0 +1,38 @@
+-- `entries::call::at_boundary` meets its contract. Assumes nothing.
+use mathlib.Core.Path.{_≡_, sym, ap, _∙_}
+use mir.Syntax.{w32}
+use mir.ValLaws.{toZ-ofZ}
+use borrow.Author.Tests.{lt-ltb, le-ltb}
+use Rattle.entries.specs.Shape.{numberReply, placeOf}
+use Rattle.entries.specs.Entries.{boundaryReply}
+use borrow.Author.Needs.{needs}
+use Rattle.entries.proofs.call.at_boundary.Statement.{statement}
+use Rattle.entries.proofs.call.at_boundary.Tie as tie
+
+returns : tie.Need-returns
+unfolding boundaryReply
+returns c =
+    let s = c .before .before .before .before .before in
+    let k = c .before .before .before .before .place in
+    let e : k .result ≡ placeOf (s .args .n) = rw (toZ-ofZ w32 (s .args .n) (s .fits .n)) at (k .ensures) in
+    rw (sym e, lt-ltb (k .result) 12 (c .before .before .before .if1 .taken)) (c .number-reply .ensures ∙ ap numberReply (c .before .T-atRegionBoundary .ensures))
+
+returns-2 : tie.Need-returns-2
+unfolding boundaryReply
+returns-2 c =
+    let s = c .before .before .before in
+    let k = c .before .before .place in
+    let e : k .result ≡ placeOf (s .args .n) = rw (toZ-ofZ w32 (s .args .n) (s .fits .n)) at (k .ensures) in
+    rw (sym e, le-ltb (k .result) 12 (c .before .if1 .left)) (c .refused .ensures)
+
+pub at-boundary-spec : {M : Type 1} → statement M
+at-boundary-spec =
+    tie.close
+    (tie.spec
+    (λ c κs. search needs)
+    (λ c. search needs)
+    (λ c κs. search needs)
+    (λ c κs. search needs)
+    returns
+    (λ c κs. search needs)
+    returns-2)

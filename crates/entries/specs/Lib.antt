@@ -1,0 +1,4 @@
+pub mod Shape
+pub mod Numbers
+pub mod Entries
+pub mod Rows

@@ -1,0 +1,18 @@
+-- To believe: which number names which entry.
+use Prim.Native.Nat.{ℕ}
+use mathlib.Core.List.{List, [], _∷_}
+use lib.ListN.{getD}
+use Rattle.entries.specs.declared.Entry.{Entry}
+use Rattle.entries.specs.declared.Entry.the-variants.{Unnamed, Power, Root, Logarithm, Exponential, PSaturation, TSaturation, Boundary, Letter, LetterVolume, Volume, PhaseVolume, PhT, PhV, PsT, PsV, HsP, TdRecord, PtRecord, PhRecord, PsRecord, HsRecord, Property, ColumnRow}
+
+-- 0 to 30
+abbrev pub numbered : List Entry
+numbered =
+    Unnamed ∷ Power ∷ Root ∷ Logarithm ∷ Exponential ∷ PSaturation ∷ TSaturation ∷ Boundary ∷ Letter ∷ LetterVolume
+    ∷ Volume ∷ PhaseVolume ∷ PhT ∷ PhV ∷ PsT ∷ PsV ∷ HsP ∷ Unnamed ∷ Unnamed ∷ Unnamed
+    ∷ TdRecord ∷ PtRecord ∷ PhRecord ∷ PsRecord ∷ HsRecord ∷ Property ∷ Unnamed ∷ Unnamed ∷ Unnamed ∷ Unnamed
+    ∷ ColumnRow ∷ []
+
+-- past the list there is none
+unfoldable pub entryOf : ℕ → Entry
+entryOf k = getD numbered k Unnamed

@@ -1,0 +1,48 @@
+// Which number names which entry.
+use crate::Entry;
+ghost use mathlib.Core.Path.{_≡_};
+ghost use Rattle.entries.specs.Numbers.{entryOf};
+
+// No entry has 0, 17 to 19, 26 to 29, or a number above 30.
+pub fn entry_of(number: u8) -> Entry
+    ensures { λ r. ⌜ r ≡ entryOf number ⌝ }
+{
+    let k = number as usize;
+    if k < 31 {
+        let entries = [
+            Entry::Unnamed,
+            Entry::Power,
+            Entry::Root,
+            Entry::Logarithm,
+            Entry::Exponential,
+            Entry::PSaturation,
+            Entry::TSaturation,
+            Entry::Boundary,
+            Entry::Letter,
+            Entry::LetterVolume,
+            Entry::Volume,
+            Entry::PhaseVolume,
+            Entry::PhT,
+            Entry::PhV,
+            Entry::PsT,
+            Entry::PsV,
+            Entry::HsP,
+            Entry::Unnamed,
+            Entry::Unnamed,
+            Entry::Unnamed,
+            Entry::TdRecord,
+            Entry::PtRecord,
+            Entry::PhRecord,
+            Entry::PsRecord,
+            Entry::HsRecord,
+            Entry::Property,
+            Entry::Unnamed,
+            Entry::Unnamed,
+            Entry::Unnamed,
+            Entry::Unnamed,
+            Entry::ColumnRow,
+        ];
+        return entries[k];
+    }
+    Entry::Unnamed
+}

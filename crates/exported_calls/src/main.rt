@@ -1,0 +1,192 @@
+// Calls the exported functions of region3_c themselves on stored rows, and holds what each writes to the oracle's answer: for each entry how
+// many rows there are and how many are answered otherwise. A record is a row of 24 bytes and its answer of 88, as for `replay`; the entry's
+// number says which function is meant. What a call is to write is found full of a number that no call answers.
+use buffer::byte_at;
+use buffer::float_at;
+use buffer::int_at;
+use buffer::put_float;
+use buffer::put_word;
+use buffer::wide;
+use tally::Tally;
+use tally::judged;
+use tally::say;
+use tally::say_counts;
+use tally::say_number;
+use tally::say_tally;
+
+const FOUND: f64 = -90.5;
+
+const FOUND_BYTE: u8 = 90;
+
+// What a call returned, and what it wrote.
+struct Called {
+    refusal: u8,
+    letter: u8,
+    numbers: [f64; 10],
+}
+
+// The calls that write one number.
+fn call_number(entry: u8, n: i32, a: f64, b: f64) -> Called {
+    let mut x = FOUND;
+    let refusal = match entry {
+        1 => region3_c::r3_power(a, n, &mut x),
+        2 => region3_c::r3_root(a, &mut x),
+        3 => region3_c::r3_logarithm(a, &mut x),
+        4 => region3_c::r3_exponential(a, &mut x),
+        5 => region3_c::r3_p_saturation(a, &mut x),
+        6 => region3_c::r3_t_saturation(a, &mut x),
+        _ => region3_c::r3_property(n, a, b, &mut x),
+    };
+    Called {
+        refusal,
+        letter: 0,
+        numbers: [x, 0.0, 0.0, 0.0, 0.0, 0.0, 0.0, 0.0, 0.0, 0.0],
+    }
+}
+
+fn call_letter(a: f64, b: f64) -> Called {
+    let mut letter = FOUND_BYTE;
+    let refusal = region3_c::r3_letter(a, b, &mut letter);
+    let numbers = [0.0; 10];
+    Called {
+        refusal,
+        letter,
+        numbers,
+    }
+}
+
+// The calls that write a record.
+fn call_record(entry: u8, a: f64, b: f64) -> Called {
+    let mut numbers = [FOUND; 10];
+    let refusal = match entry {
+        20 => region3_c::r3_td(a, b, &mut numbers),
+        21 => region3_c::r3_pt(a, b, &mut numbers),
+        22 => region3_c::r3_ph(a, b, &mut numbers),
+        23 => region3_c::r3_ps(a, b, &mut numbers),
+        _ => region3_c::r3_hs(a, b, &mut numbers),
+    };
+    Called {
+        refusal,
+        letter: 0,
+        numbers,
+    }
+}
+
+// One row of the column run. A call that is refused as a whole has its own number, which no row has.
+fn call_column(a: f64, b: f64) -> Called {
+    let ps = [a; 1];
+    let ts = [b; 1];
+    let mut letters = [FOUND_BYTE; 1];
+    let mut densities = [FOUND; 1];
+    let mut refusals = [FOUND_BYTE; 1];
+    let verdict = region3_c::r3_columns(&ps, &ts, &mut letters, &mut densities, &mut refusals);
+    Called {
+        refusal: if verdict == 0 { refusals[0] } else { verdict },
+        letter: letters[0],
+        numbers: [densities[0], 0.0, 0.0, 0.0, 0.0, 0.0, 0.0, 0.0, 0.0, 0.0],
+    }
+}
+
+fn call(entry: u8, n: i32, a: f64, b: f64) -> Called {
+    match entry {
+        8 => call_letter(a, b),
+        20 | 21 | 22 | 23 | 24 => call_record(entry, a, b),
+        30 => call_column(a, b),
+        _ => call_number(entry, n, a, b),
+    }
+}
+
+fn equal(a: &[u8; 112], b: &[u8; 112]) -> bool {
+    check::same(a, b)
+}
+
+// Whether a record stores what a call came to, bit by bit: with the answer put in, it is the record that it was.
+fn stored(row: [u8; 112], c: Called) -> bool {
+    let numbers = c.numbers;
+    let mut answered = row;
+    put_word(&mut answered, 24, wide(c.refusal) + 256 * wide(c.letter));
+    put_float(&mut answered, 32, numbers[0]);
+    put_float(&mut answered, 40, numbers[1]);
+    put_float(&mut answered, 48, numbers[2]);
+    put_float(&mut answered, 56, numbers[3]);
+    put_float(&mut answered, 64, numbers[4]);
+    put_float(&mut answered, 72, numbers[5]);
+    put_float(&mut answered, 80, numbers[6]);
+    put_float(&mut answered, 88, numbers[7]);
+    put_float(&mut answered, 96, numbers[8]);
+    put_float(&mut answered, 104, numbers[9]);
+    equal(&answered, &row)
+}
+
+fn agrees(row: [u8; 112]) -> bool {
+    stored(
+        row,
+        call(
+            byte_at(&row, 0),
+            int_at(&row, 4),
+            float_at(&row, 8),
+            float_at(&row, 16),
+        ),
+    )
+}
+
+// Nothing says that a file ends, so the records are counted down from a number that no run uses up.
+fn judge_file(fd: i32, rows: &mut [u64], differ: &mut [u64]) -> Tally {
+    let mut t = Tally {
+        rows: 0,
+        differ: 0,
+        left: 0,
+    };
+    let mut row = [0u8; 112];
+    let mut most = u64::MAX;
+    while most > 0 {
+        let have = io::read_full(fd, &mut row);
+        if have < 112 {
+            t.left = have;
+            return t;
+        }
+        t = judged(t, byte_at(&row, 0), agrees(row), rows, differ);
+        most -= 1;
+    }
+    t
+}
+
+fn say_entries(rows: &[u64; 31], differ: &[u64; 31]) {
+    let mut e = 0;
+    while e < 31 {
+        if rows[e] > 0 {
+            say_number(b"entry ", e as u64);
+            say_counts(rows[e], differ[e]);
+        }
+        e += 1;
+    }
+}
+
+// Columns of unequal length are refused with 7.
+fn say_unequal() {
+    let ps = [24.0; 2];
+    let ts = [650.0; 1];
+    let mut letters = [FOUND_BYTE; 1];
+    let mut densities = [FOUND; 1];
+    let mut refusals = [FOUND_BYTE; 1];
+    let verdict = region3_c::r3_columns(&ps, &ts, &mut letters, &mut densities, &mut refusals);
+    say_number(b"columns of unequal length: refusal ", verdict as u64);
+    say_number(b" letter ", wide(letters[0]));
+    say_number(b" row's refusal ", wide(refusals[0]));
+    say(b"\n");
+}
+
+fn main() {
+    let fd = os::open_read(b"rows.bin");
+    if fd < 0 {
+        say(b"not read\n");
+        return;
+    }
+    let mut rows = [0u64; 31];
+    let mut differ = [0u64; 31];
+    let t = judge_file(fd, &mut rows, &mut differ);
+    libc::close(fd);
+    say_entries(&rows, &differ);
+    say_tally(t);
+    say_unequal();
+}

@@ -1,0 +1,18 @@
+-- `extended::region3_Td_ext::raw_iJTC`: the proof is the formula, tested once at its end.
+use Rattle.common.proofs.Formulas.{raw-value, raw-div, raw-minus, _*ʳ_}
+use mathlib.Core.Path.{refl}
+use lib.Ieee.{ofBits}
+use borrow.Author.Needs.{needs}
+use Rattle.common.specs.Decimal.{whole, scaled}
+use Rattle.extended.specs.Ext.{Td2iJTC}
+use Rattle.helmholtz.proofs.Numbers.{tested}
+use Rattle.extended.proofs.region3_Td_ext.raw_iJTC.Statement.{statement}
+use Rattle.extended.proofs.region3_Td_ext.raw_iJTC.Tie as tie
+
+returns : tie.Need-returns
+unfolding ofBits whole scaled Td2iJTC
+returns c =
+    tested (raw-div refl (raw-minus (c .before .before .raw-cp .ensures .raw) *ʳ c .before .raw-joule .ensures .raw) (raw-value (whole 1000) refl)) (c .finite-or-nan .ensures)
+
+pub raw-iJTC-spec : {M : Type 1} → statement M
+raw-iJTC-spec = tie.close (tie.spec (λ c κs. search needs) (λ c κs. search needs) (λ c κs. search needs) returns)

@@ -1,0 +1,25 @@
+-- `extended::region3_Td_ext::state_ks`: p is tested at its place (TestedP), and the rest is the formula.
+use Rattle.common.proofs.Formulas.{raw-value, raw-check, named, _*ʳ_, _/ʳ_}
+use mathlib.Core.Path.{refl}
+use lib.Ieee.{ofBits}
+use borrow.Author.Needs.{needs}
+use Rattle.common.specs.Decimal.{scaled}
+use Rattle.properties.specs.Td.{statePressure}
+use Rattle.extended.specs.Ext.{Td2ks}
+use Rattle.extended.proofs.TestedP.{then-p}
+use Rattle.extended.proofs.region3_Td_ext.state_ks.Statement.{statement}
+use Rattle.extended.proofs.region3_Td_ext.state_ks.Tie as tie
+
+returns : tie.Need-returns
+unfolding ofBits scaled statePressure Td2ks
+returns c =
+    let s = c .before .before .before .before in
+    let d = raw-check (s .before .before .args .d .0) in
+    rw (c .with-tested-p .ensures, c .before .before .before .lost-or .ensures)
+    (then-p (c .before .over .result) _ (s .before .raw-w .ensures .raw) (s .raw-p .ensures .raw)
+    (λ fw fp. named (c .before .over .ensures) (raw-value _ refl *ʳ raw-value _ fw *ʳ raw-value _ fw *ʳ d /ʳ raw-value _ fp)))
+
+pub state-ks-spec : {M : Type 1} → statement M
+state-ks-spec =
+    tie.close
+    (tie.spec (λ c κs. search needs) (λ c κs. search needs) (λ c κs. search needs) (λ c κs. search needs) (λ c κs. search needs) returns)

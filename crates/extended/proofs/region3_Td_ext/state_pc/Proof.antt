@@ -1,0 +1,23 @@
+-- `extended::region3_Td_ext::state_pc`: p is tested at its place (TestedP), and the rest is the formula.
+use Rattle.common.proofs.Formulas.{raw-value, named, _*ʳ_, _/ʳ_}
+use mathlib.Core.Path.{refl, _∙_}
+use lib.Ieee.{ofBits}
+use borrow.Author.Needs.{needs}
+use Rattle.common.specs.Decimal.{whole, scaled}
+use Rattle.properties.specs.Td.{statePressure}
+use Rattle.extended.specs.Ext.{Td2pc}
+use Rattle.extended.proofs.TestedP.{first-p}
+use Rattle.extended.proofs.region3_Td_ext.state_pc.Statement.{statement}
+use Rattle.extended.proofs.region3_Td_ext.state_pc.Tie as tie
+
+returns : tie.Need-returns
+unfolding ofBits whole scaled statePressure Td2pc
+returns c =
+    let s = c .before .before in
+    c .with-tested-p .ensures
+    ∙ first-p _ _ (s .before .raw-p .ensures .raw)
+    (λ fp. named (s .over .ensures) (raw-value (whole 1) refl /ʳ raw-value _ fp) *ʳ c .before .raw-dpdtcv .ensures .raw)
+
+pub state-pc-spec : {M : Type 1} → statement M
+state-pc-spec =
+    tie.close (tie.spec (λ c κs. search needs) (λ c κs. search needs) (λ c κs. search needs) (λ c κs. search needs) returns)

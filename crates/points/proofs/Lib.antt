@@ -1,0 +1,4 @@
+pub mod Volumes
+pub mod Backward
+pub mod Columns
+pub mod Records

@@ -1,0 +1,13 @@
+-- `record::settle_t` meets its contract: its literals are the range's decimals. Assumes nothing.
+use lib.Ieee.{ofBits}
+use borrow.Author.Needs.{needs}
+use Rattle.common.specs.Decimal.{decimal, whole, scaled}
+use Rattle.record.proofs.state.settle_t.Statement.{statement}
+use Rattle.record.proofs.state.settle_t.Tie as tie
+
+returns : tie.Need-returns
+unfolding ofBits decimal whole scaled
+returns c = c .settle-in .ensures
+
+pub settle-t-spec : {M : Type 1} → statement M
+settle-t-spec = tie.close (tie.spec (λ c κs. search needs) returns)

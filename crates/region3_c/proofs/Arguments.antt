@@ -1,0 +1,89 @@
+-- Which argument of an exported call is which, by its place: the first is T of `r3_td`, p of `r3_pt`, and so on, as bindings/c/region3.h has them. A
+-- contract whose arguments change places with those of its code is refused here. Assumes nothing.
+use Prim.Native.Nat.{ℕ}
+use denote.Ref.{now}
+use contract.Lifetimes.{Lfts}
+use denote.Triple.Clauses.{AtExit}
+use borrow.Fn.Kinds.{Dens, endedOf, resT}
+use Rattle.rules.specs.Root.{rootRule}
+use Rattle.rules.specs.Log.{logarithmRule}
+use Rattle.rules.specs.Exp.{exponentialRule}
+use Rattle.r4.specs.Saturation.{p-saturationRule, T-saturationRule}
+use Rattle.boundary.specs.Choice.{letterRule}
+use Rattle.record.specs.Record.{report}
+use Rattle.td_record.specs.Steps.{recordRule}
+use Rattle.region3.specs.Entries.{pTRule, phRule, psRule, hsRule}
+use Rattle.column_run.specs.Columns.{lent, columnsRule}
+use Rattle.region3_c.specs.Exported.{Exported, ExportedLetter, ExportedRecord, ExportedColumns}
+use Rattle.region3_c.proofs.r3_root.Kinds as root-kinds
+use Rattle.region3_c.proofs.r3_root.Reads as root
+use Rattle.region3_c.proofs.r3_logarithm.Kinds as logarithm-kinds
+use Rattle.region3_c.proofs.r3_logarithm.Reads as logarithm
+use Rattle.region3_c.proofs.r3_exponential.Kinds as exponential-kinds
+use Rattle.region3_c.proofs.r3_exponential.Reads as exponential
+use Rattle.region3_c.proofs.r3_p_saturation.Kinds as p-saturation-kinds
+use Rattle.region3_c.proofs.r3_p_saturation.Reads as p-saturation
+use Rattle.region3_c.proofs.r3_t_saturation.Kinds as t-saturation-kinds
+use Rattle.region3_c.proofs.r3_t_saturation.Reads as t-saturation
+use Rattle.region3_c.proofs.r3_letter.Kinds as letter-kinds
+use Rattle.region3_c.proofs.r3_letter.Reads as letter
+use Rattle.region3_c.proofs.r3_td.Kinds as td-kinds
+use Rattle.region3_c.proofs.r3_td.Reads as td
+use Rattle.region3_c.proofs.r3_pt.Kinds as pt-kinds
+use Rattle.region3_c.proofs.r3_pt.Reads as pt
+use Rattle.region3_c.proofs.r3_ph.Kinds as ph-kinds
+use Rattle.region3_c.proofs.r3_ph.Reads as ph
+use Rattle.region3_c.proofs.r3_ps.Kinds as ps-kinds
+use Rattle.region3_c.proofs.r3_ps.Reads as ps
+use Rattle.region3_c.proofs.r3_hs.Kinds as hs-kinds
+use Rattle.region3_c.proofs.r3_hs.Reads as hs
+use Rattle.region3_c.proofs.r3_columns.Kinds as columns-kinds
+use Rattle.region3_c.proofs.r3_columns.Reads as columns
+
+pub root-says : (κs : Lfts 1) (a : Dens κs root-kinds.ps) (e : AtExit (endedOf 1 root-kinds.ps root-kinds.r) κs) (x : resT root-kinds.r κs .Denot) → root.Post κs a x e
+    → Exported (rootRule (a .0)) x (now (e .1 .0))
+root-says κs a e x p = p
+
+pub logarithm-says : (κs : Lfts 1) (a : Dens κs logarithm-kinds.ps) (e : AtExit (endedOf 1 logarithm-kinds.ps logarithm-kinds.r) κs) (x : resT logarithm-kinds.r κs .Denot) → logarithm.Post κs a x e
+    → Exported (logarithmRule (a .0)) x (now (e .1 .0))
+logarithm-says κs a e x p = p
+
+pub exponential-says : (κs : Lfts 1) (a : Dens κs exponential-kinds.ps) (e : AtExit (endedOf 1 exponential-kinds.ps exponential-kinds.r) κs) (x : resT exponential-kinds.r κs .Denot) → exponential.Post κs a x e
+    → Exported (exponentialRule (a .0)) x (now (e .1 .0))
+exponential-says κs a e x p = p
+
+pub p-saturation-says : (κs : Lfts 1) (a : Dens κs p-saturation-kinds.ps) (e : AtExit (endedOf 1 p-saturation-kinds.ps p-saturation-kinds.r) κs) (x : resT p-saturation-kinds.r κs .Denot) → p-saturation.Post κs a x e
+    → Exported (p-saturationRule (a .0)) x (now (e .1 .0))
+p-saturation-says κs a e x p = p
+
+pub t-saturation-says : (κs : Lfts 1) (a : Dens κs t-saturation-kinds.ps) (e : AtExit (endedOf 1 t-saturation-kinds.ps t-saturation-kinds.r) κs) (x : resT t-saturation-kinds.r κs .Denot) → t-saturation.Post κs a x e
+    → Exported (T-saturationRule (a .0)) x (now (e .1 .0))
+t-saturation-says κs a e x p = p
+
+pub letter-says : (κs : Lfts 1) (a : Dens κs letter-kinds.ps) (e : AtExit (endedOf 1 letter-kinds.ps letter-kinds.r) κs) (x : resT letter-kinds.r κs .Denot) → letter.Post κs a x e
+    → ExportedLetter (letterRule (a .0) (a .1 .0)) x (now (e .1 .1 .0))
+letter-says κs a e x p = p
+
+pub td-says : (κs : Lfts 1) (a : Dens κs td-kinds.ps) (e : AtExit (endedOf 1 td-kinds.ps td-kinds.r) κs) (x : resT td-kinds.r κs .Denot) → td.Post κs a x e
+    → ExportedRecord (report (recordRule (a .0) (a .1 .0))) x (now (e .1 .1 .0))
+td-says κs a e x p = p
+
+pub pt-says : (κs : Lfts 1) (a : Dens κs pt-kinds.ps) (e : AtExit (endedOf 1 pt-kinds.ps pt-kinds.r) κs) (x : resT pt-kinds.r κs .Denot) → pt.Post κs a x e
+    → ExportedRecord (report (pTRule (a .0) (a .1 .0))) x (now (e .1 .1 .0))
+pt-says κs a e x p = p
+
+pub ph-says : (κs : Lfts 1) (a : Dens κs ph-kinds.ps) (e : AtExit (endedOf 1 ph-kinds.ps ph-kinds.r) κs) (x : resT ph-kinds.r κs .Denot) → ph.Post κs a x e
+    → ExportedRecord (report (phRule (a .0) (a .1 .0))) x (now (e .1 .1 .0))
+ph-says κs a e x p = p
+
+pub ps-says : (κs : Lfts 1) (a : Dens κs ps-kinds.ps) (e : AtExit (endedOf 1 ps-kinds.ps ps-kinds.r) κs) (x : resT ps-kinds.r κs .Denot) → ps.Post κs a x e
+    → ExportedRecord (report (psRule (a .0) (a .1 .0))) x (now (e .1 .1 .0))
+ps-says κs a e x p = p
+
+pub hs-says : (κs : Lfts 1) (a : Dens κs hs-kinds.ps) (e : AtExit (endedOf 1 hs-kinds.ps hs-kinds.r) κs) (x : resT hs-kinds.r κs .Denot) → hs.Post κs a x e
+    → ExportedRecord (report (hsRule (a .0) (a .1 .0))) x (now (e .1 .1 .0))
+hs-says κs a e x p = p
+
+pub columns-says : (κs : Lfts 5) (a : Dens κs columns-kinds.ps) (e : AtExit (endedOf 5 columns-kinds.ps columns-kinds.r) κs) (x : resT columns-kinds.r κs .Denot) → columns.Post κs a x e
+    → ExportedColumns (columnsRule (now (a .0)) (now (a .1 .0)) (lent (now (a .1 .1 .0)) (now (a .1 .1 .1 .0)) (now (a .1 .1 .1 .1 .0)))) x (now (e .1 .1 .0)) (now (e .1 .1 .1 .0)) (now (e .1 .1 .1 .1 .0))
+columns-says κs a e x p = p

@@ -1,0 +1,45 @@
+-- To believe: what an exported call leaves with its caller: a refusal byte, and a number, a letter, a record or columns behind a pointer. The record that
+-- a caller lends only helps proofs: no answer depends on it. Assumes nothing: these are definitions.
+use Rattle.record.specs.Record.{fieldsOf}
+use mathlib.Core.Path.{_≡_}
+use mathlib.Core.List.{List}
+use Prim.Native.Nat.{ℕ}
+use lib.ListN.{getD}
+use lib.Ieee.{Float, nan}
+use Rattle.common.specs.Outcome.{Outcome, numberIn, valueIn}
+use Rattle.subregion.specs.declared.Letter.{Letter}
+use Rattle.subregion.specs.Letter.{byteIn}
+use Rattle.record.specs.declared.Record.{Record}
+use Rattle.column_run.specs.Columns.{Lent, lent}
+
+-- a number: +0.0 beside a refusal
+abbrev pub Exported : Outcome Float → ℕ → Float → Type 0
+Exported o byte number = (byte ≡ numberIn o) × (number ≡ valueIn o)
+
+-- a letter: 0 beside a refusal
+abbrev pub ExportedLetter : Outcome Letter → ℕ → ℕ → Type 0
+ExportedLetter o byte letter = (byte ≡ numberIn o) × (letter ≡ byteIn o)
+
+-- a record, by its report: +0.0 in every field beside a refusal
+abbrev pub ExportedRecord : Outcome Unit × Record → ℕ → List Float → Type 0
+ExportedRecord s byte fields = (byte ≡ numberIn (s .0)) × (fields ≡ fieldsOf (s .1))
+
+-- the three columns: as they were found beside a refusal
+abbrev pub ExportedColumns : Outcome Unit × Lent → ℕ → List ℕ → List Float → List ℕ → Type 0
+ExportedColumns s byte letters densities refusals = (byte ≡ numberIn (s .0)) × (lent letters densities refusals ≡ s .1)
+
+-- the record that ten numbers are, in the order of `fieldsOf`
+abbrev pub lentRecord : List Float → Record
+lentRecord xs =
+    record {
+      T = getD xs 0 nan;
+      d = getD xs 1 nan;
+      v = getD xs 2 nan;
+      p = getD xs 3 nan;
+      h = getD xs 4 nan;
+      s = getD xs 5 nan;
+      u = getD xs 6 nan;
+      cv = getD xs 7 nan;
+      cp = getD xs 8 nan;
+      w = getD xs 9 nan;
+    }

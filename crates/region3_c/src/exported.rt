@@ -1,0 +1,63 @@
+// What a caller lends as a record, and an answer as a refusal byte and what stands behind a pointer.
+use common::Answer;
+use common::number;
+use common::verdict_byte;
+use record::Record;
+use record::RecordAnswer;
+use record::fields;
+use subregion::LetterAnswer;
+use subregion::letter_byte;
+use subregion::refusal_byte;
+ghost use mathlib.Core.Path.{_≡_};
+ghost use Rattle.common.specs.Answer.{paper};
+ghost use Rattle.subregion.specs.Letter.{paperLetter};
+ghost use Rattle.record.specs.Record.{paperRecord};
+ghost use Rattle.region3_c.specs.Exported.{lentRecord, Exported, ExportedLetter, ExportedRecord};
+
+// The caller's ten numbers, in the record's order.
+pub fn lent_record(xs: [f64; 10]) -> Record
+    ensures { λ r. ⌜ r ≡ lentRecord xs ⌝ }
+{
+    Record {
+        T: xs[0],
+        d: xs[1],
+        v: xs[2],
+        p: xs[3],
+        h: xs[4],
+        s: xs[5],
+        u: xs[6],
+        cv: xs[7],
+        cp: xs[8],
+        w: xs[9],
+    }
+}
+
+pub fn exported(a: Answer, out: &mut f64) -> u8
+    ensures { λ r. ⌜ Exported (paper a) r (now (out .exit)) ⌝ }
+{
+    match a {
+        Answer::Value(x) => {
+            *out = x;
+            return 0;
+        }
+        Answer::Refused(k) => {
+            *out = 0.0;
+            return number(k);
+        }
+    }
+}
+
+pub fn exported_letter(c: LetterAnswer, letter: &mut u8) -> u8
+    ensures { λ r. ⌜ ExportedLetter (paperLetter c) r (now (letter .exit)) ⌝ }
+{
+    *letter = letter_byte(c);
+    refusal_byte(c)
+}
+
+pub fn exported_record(a: RecordAnswer, out: &mut [f64; 10]) -> u8
+    ensures { λ r. ⌜ ExportedRecord (paperRecord a) r (now (out .exit)) ⌝ }
+{
+    *out = fields(a.record);
+    let v = a.verdict;
+    verdict_byte(v)
+}

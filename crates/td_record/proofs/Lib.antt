@@ -1,0 +1,3 @@
+pub mod RecordSteps
+pub mod Points
+pub mod Unique

@@ -1,0 +1,54 @@
+-- A record whose fields are worked with no check and tested once is the record with a check at each step.
+use Rattle.common.specs.Formula.{lostOr}
+use mathlib.Core.Path.{_≡_, refl}
+use mathlib.Core.Bool.{true, cond}
+use Prim.Native.Nat.{ℕ}
+use lib.Ieee.{Float, nan, inf, fin}
+use Rattle.common.specs.Outcome.{Outcome, value, refused, finite, check, then}
+use Rattle.common.proofs.Laws.{Lost, check-kept, check-lost}
+use Rattle.common.specs.Formula.{Raw}
+use Rattle.td_record.specs.Steps.{pressureFrom, recordAfter, recordSteps}
+use Rattle.td_record.specs.declared.Pressure.{Pressure}
+
+module _ {A : Type 0} (f : Float → Outcome A) (a : A) where
+  -- a is whole where x and what follows it are finite
+  gate : (x rest : Float) → (finite x ≡ true → f x ≡ cond (finite rest) (value a) (refused 5)) → then (check x) f ≡ cond (finite (lostOr x rest)) (value a) (refused 5)
+  gate nan rest h = refl
+  gate (inf s) rest h = refl
+  gate (fin s m e) rest h = h refl
+
+  last : (x : Float) → f x ≡ value a → then (check x) f ≡ cond (finite x) (value a) (refused 5)
+  last nan h = refl
+  last (inf s) h = refl
+  last (fin s m e) h = h
+
+  pub before : {o : Outcome Float} {x : Float} → Raw o x → (rest : Float) → (finite x ≡ true → f x ≡ cond (finite rest) (value a) (refused 5)) → then o f ≡ cond (finite (lostOr x rest)) (value a) (refused 5)
+  before {x} w rest h = rw (w .is) (gate x rest h)
+
+  pub at-last : {o : Outcome Float} {x : Float} → Raw o x → f x ≡ value a → then o f ≡ cond (finite x) (value a) (refused 5)
+  at-last {x} w h = rw (w .is) (last x h)
+
+-- ---- the steps, by what v and p come to
+
+module _ (t d v : Float) (source : Pressure) where
+  pub steps-value : (p : Float) → finite v ≡ true → pressureFrom source (check t) (check d) ≡ value p → recordSteps t d v source ≡ recordAfter t d v p
+  unfolding recordSteps
+  steps-value p f e = rw (check-kept v f, e)
+
+  pub steps-refused : (k : ℕ) → finite v ≡ true → pressureFrom source (check t) (check d) ≡ refused k → recordSteps t d v source ≡ refused k
+  unfolding recordSteps
+  steps-refused k f e = rw (check-kept v f, e)
+
+  pub steps-lost : Lost v → recordSteps t d v source ≡ refused 5
+  unfolding recordSteps
+  steps-lost l = rw (check-lost v l)
+
+-- v is worked first
+pub steps-after : (t d v : Float) (source : Pressure) (o : Outcome Float) → Raw o v → then o (λ v. recordSteps t d v source) ≡ recordSteps t d v source
+unfolding recordSteps
+steps-after t d v source o w = rw (w .is) (twice v)
+  where
+    twice : (v : Float) → then (check v) (λ v. recordSteps t d v source) ≡ recordSteps t d v source
+    twice nan = refl
+    twice (inf s) = refl
+    twice (fin s m e) = refl
