@@ -12,8 +12,8 @@ use lib.ListN.{length}
 use lib.Ieee.{Float}
 use Rattle.buffer.specs.Bytes.{joined, eight}
 use Rattle.buffer.proofs.Laws.{joined-length}
-use Rattle.entries.specs.Rows.{numberBytes, replyBytes, below}
-use Rattle.entries.specs.declared.Reply.{Reply}
+use Rattle.reply.specs.Bytes.{numberBytes, replyBytes, below}
+use Rattle.reply.specs.declared.Reply.{Reply}
 
 pub head-word : (r l : ℕ) → r < 256 → l < 256 → eight (r + 256 * l) ≡ r ∷ l ∷ 0 ∷ 0 ∷ 0 ∷ 0 ∷ 0 ∷ 0 ∷ []
 head-word r l h k =

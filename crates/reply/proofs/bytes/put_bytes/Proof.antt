@@ -1,4 +1,4 @@
--- `entries::put_reply` meets its contract. Assumes nothing.
+-- `reply::bytes::put_bytes` meets its contract. Assumes nothing.
 use mathlib.Core.Path.{_≡_, refl, ap, _∙_}
 use mathlib.Core.List.{List, [], _∷_}
 use Prim.Native.Nat.{ℕ, _+_, _-_, _*_, _≤_}
@@ -9,10 +9,10 @@ use lib.Seq.{sets}
 use borrow.Author.Needs.{needs}
 use Rattle.buffer.specs.Bytes.{joined, eight}
 use Rattle.buffer.proofs.Laws.{sets-append, placed-all, pieces-more}
-use Rattle.entries.proofs.Laws.{head-word, number-length}
-use Rattle.entries.specs.Rows.{numberBytes, replyBytes}
-use Rattle.entries.proofs.page.put_reply.Statement.{statement}
-use Rattle.entries.proofs.page.put_reply.Tie as tie
+use Rattle.reply.proofs.Laws.{head-word, number-length}
+use Rattle.reply.specs.Bytes.{numberBytes, replyBytes}
+use Rattle.reply.proofs.bytes.put_bytes.Statement.{statement}
+use Rattle.reply.proofs.bytes.put_bytes.Tie as tie
 
 abbrev Inv-loop : tie.InvT-loop
 Inv-loop out₀ at numbers k₀ out k = (k ≤ 10) × (length out ≡ length out₀) × (out ≡ sets out₀ (at + 8) (joined (numberBytes numbers) k))
@@ -60,8 +60,8 @@ returns c =
     (w .put-word .ensures ∙ placed-all (a .out .now) (a .at) (eight (x .result + 256 * y .result)) (omega (arith, s .pre)) ∙ ap (λ (m : List ℕ). sets (a .out .now) (a .at) m) e)
     ∙ sets-append head (joined f 10) (a .out .now) (a .at)
 
-pub put-reply-spec : {M : Type 1} → statement M
-put-reply-spec =
+pub put-bytes-spec : {M : Type 1} → statement M
+put-bytes-spec =
     tie.close
     (tie.spec
     Inv-loop

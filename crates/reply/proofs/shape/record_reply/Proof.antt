@@ -1,7 +1,7 @@
--- `entries::shape::record_reply` meets its contract. Assumes nothing.
+-- `reply::shape::record_reply` meets its contract. Assumes nothing.
 use borrow.Author.Needs.{needs}
-use Rattle.entries.proofs.shape.record_reply.Statement.{statement}
-use Rattle.entries.proofs.shape.record_reply.Tie as tie
+use Rattle.reply.proofs.shape.record_reply.Statement.{statement}
+use Rattle.reply.proofs.shape.record_reply.Tie as tie
 
 returns : tie.Need-returns
 returns c = rw (c .before .verdict-byte .ensures, c .fields .ensures)

@@ -1,8 +1,8 @@
--- `entries::shape::letter_reply` meets its contract. Assumes nothing.
+-- `reply::shape::letter_reply` meets its contract. Assumes nothing.
 use lib.Ieee.{ofBits}
 use borrow.Author.Needs.{needs}
-use Rattle.entries.proofs.shape.letter_reply.Statement.{statement}
-use Rattle.entries.proofs.shape.letter_reply.Tie as tie
+use Rattle.reply.proofs.shape.letter_reply.Statement.{statement}
+use Rattle.reply.proofs.shape.letter_reply.Tie as tie
 
 returns : tie.Need-returns
 unfolding ofBits

@@ -1,12 +1,12 @@
--- `entries::shape::number_reply` meets its contract. Assumes nothing.
+-- `reply::shape::number_reply` meets its contract. Assumes nothing.
 use mathlib.Core.Path.{sym, ap, _∙_}
 use lib.Ieee.{ofBits}
 use Rattle.common.specs.Answer.{paper}
 use Rattle.common.specs.declared.Answer.{Answer}
-use Rattle.entries.specs.Shape.{refusedBy, numberReply}
+use Rattle.reply.specs.Shape.{refusedBy, numberReply}
 use borrow.Author.Needs.{needs}
-use Rattle.entries.proofs.shape.number_reply.Statement.{statement}
-use Rattle.entries.proofs.shape.number_reply.Tie as tie
+use Rattle.reply.proofs.shape.number_reply.Statement.{statement}
+use Rattle.reply.proofs.shape.number_reply.Tie as tie
 
 returns : tie.Need-returns
 unfolding ofBits

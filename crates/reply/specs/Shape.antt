@@ -1,18 +1,16 @@
--- To believe: the shapes of a reply, and what a whole number names.
+-- To believe: the shapes of a reply.
 use mathlib.Core.Bool.{cond}
-use Prim.Native.Nat.{ℕ, _^_}
-use mathlib.Core.List.{List, [], _∷_}
+use Prim.Native.Nat.{ℕ}
+use mathlib.Core.List.{List, _∷_}
 use lib.Dec.{ltb}
-use lib.IntN.{ℤ, pos, negsuc}
-use lib.ListN.{length, getD, replicate}
+use lib.ListN.{getD, replicate}
 use lib.Ieee.{Float, nan}
 use Rattle.common.specs.Outcome.{Outcome, numberIn, valueIn, zeroF}
 use Rattle.subregion.specs.declared.Letter.{Letter}
 use Rattle.subregion.specs.Letter.{byteIn}
 use Rattle.record.specs.declared.Record.{Record}
 use Rattle.record.specs.Record.{fieldsOf}
-use Rattle.column_run.specs.declared.Line.{Line}
-use Rattle.entries.specs.declared.Reply.{Reply}
+use Rattle.reply.specs.declared.Reply.{Reply}
 
 -- a call that is refused: no letter, and +0.0 in every place
 abbrev pub refusedBy : ℕ → Reply
@@ -30,23 +28,6 @@ letterReply o = record { refusal = numberIn o; letter = byteIn o; numbers = repl
 abbrev pub recordReply : Outcome Unit × Record → Reply
 recordReply a = record { refusal = numberIn (a .0); letter = 0; numbers = fieldsOf (a .1) }
 
--- a row of the column run: its letter, and the density in the first place
-abbrev pub rowReply : Line → Reply
-rowReply l = record { refusal = l .refusal; letter = l .letter; numbers = l .density ∷ replicate 9 zeroF }
-
 -- one of a reply's ten numbers by its place, and +0.0 past them
 abbrev pub numberAt : List Float → ℕ → Float
 numberAt xs k = cond (ltb k 10) (getD xs k nan) zeroF
-
--- no such entry, boundary, letter or phase
-abbrev pub unknown : Reply
-unknown = refusedBy 255
-
--- the place that a number names in a list; a negative one is past the end of every list
-abbrev pub placeOf : ℤ → ℕ
-placeOf (pos k) = k
-placeOf (negsuc k) = 2 ^ 32
-
--- what f answers for the entry of a list at a place (d stands where there is none, and is never asked)
-abbrev pub named : {A : Type 0} → List A → A → ℕ → (A → Reply) → Reply
-named xs d k f = cond (ltb k (length xs)) (f (getD xs k d)) unknown

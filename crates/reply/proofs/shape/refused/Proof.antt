@@ -1,8 +1,8 @@
--- `entries::shape::refused` meets its contract. Assumes nothing.
+-- `reply::shape::refused` meets its contract. Assumes nothing.
 use mathlib.Core.Path.{refl}
 use lib.Ieee.{ofBits}
-use Rattle.entries.proofs.shape.refused.Statement.{statement}
-use Rattle.entries.proofs.shape.refused.Tie as tie
+use Rattle.reply.proofs.shape.refused.Statement.{statement}
+use Rattle.reply.proofs.shape.refused.Tie as tie
 
 returns : tie.Need-returns
 unfolding ofBits

@@ -1,9 +1,9 @@
--- `entries::shape::number_at` meets its contract: each branch is a side of the definition's test.
+-- `reply::shape::number_at` meets its contract: each branch is a side of the definition's test.
 use lib.Ieee.{ofBits}
 use borrow.Author.Needs.{needs}
 use borrow.Author.Tests.{lt-ltb, le-ltb}
-use Rattle.entries.proofs.shape.number_at.Statement.{statement}
-use Rattle.entries.proofs.shape.number_at.Tie as tie
+use Rattle.reply.proofs.shape.number_at.Statement.{statement}
+use Rattle.reply.proofs.shape.number_at.Tie as tie
 
 returns : tie.Need-returns
 returns c = rw (lt-ltb _ _ (c .if1 .taken))
