@@ -4,8 +4,8 @@ use mathlib.Core.List.{List, [], _∷_}
 use lib.ListN.{replicate}
 use lib.Ieee.{Float}
 use Rattle.common.specs.Outcome.{Outcome, value, refused, zeroF}
-use Rattle.algo.specs.declared.Pair.{Pair}
-use Rattle.algo.specs.declared.Four.{Four}
+use Rattle.joint.specs.declared.Pair.{Pair}
+use Rattle.joint.specs.declared.Four.{Four}
 use Rattle.sum_rows.specs.declared.SumReply.{SumReply}
 
 -- a sum that is refused: +0.0 in every place

@@ -4,10 +4,10 @@ use mathlib.Core.List.{List, [], _∷_}
 use lib.IntN.{ℤ}
 use lib.ListN.{getD}
 use lib.Ieee.{Float}
-use Rattle.algo.specs.Table.{tableRule, term, termI, termII, termIJ, termJ, termJJ}
-use Rattle.algo.specs.Joint.{pairTable, fourTable}
+use Rattle.algo.specs.Table.{term, termI, termII, termIJ, termJ, termJJ}
+use Rattle.polynomial.specs.Columns.{tableRule, pairTable, fourTable}
 use Rattle.algo.specs.declared.Order.the-variants.{Zero, One}
-use Rattle.algo.specs.declared.Share.the-variants.{Whole, I, Next, J}
+use Rattle.algo.specs.declared.Share.the-variants.{Whole, I, IAgain, J}
 use Rattle.sum_rows.specs.declared.SumReply.{SumReply}
 use Rattle.sum_rows.specs.declared.Sum.{Sum}
 use Rattle.sum_rows.specs.declared.Sum.the-variants.{Unnamed, Poly, PolyI, PolyIi, PolyIj, PolyJ, PolyJj, Polys0J, PolysIJ, PolysIIj, PolysIIi, PolysIIiIjJj}
@@ -33,5 +33,5 @@ replyRule PolyJj vi vj is js ns = oneReply (tableRule termJJ vi vj is js ns)
 replyRule Polys0J vi vj is js ns = twoReply (pairTable Zero Whole J vi vj is js ns)
 replyRule PolysIJ vi vj is js ns = twoReply (pairTable Zero I J vi vj is js ns)
 replyRule PolysIIj vi vj is js ns = twoReply (pairTable One Whole J vi vj is js ns)
-replyRule PolysIIi vi vj is js ns = twoReply (pairTable One Whole Next vi vj is js ns)
+replyRule PolysIIi vi vj is js ns = twoReply (pairTable One Whole IAgain vi vj is js ns)
 replyRule PolysIIiIjJj vi vj is js ns = fourReply (fourTable vi vj is js ns)

@@ -1,12 +1,12 @@
 // What a sum came to, in its shape: a refusal, one number, two or four.
 use crate::SumReply;
-use algo::FourAnswer;
-use algo::PairAnswer;
 use common::Answer;
 use common::number;
+use polynomial::FourAnswer;
+use polynomial::PairAnswer;
 ghost use mathlib.Core.Path.{_≡_};
 ghost use Rattle.common.specs.Answer.{paper};
-ghost use Rattle.algo.specs.Joint.{paperPair, paperFour};
+ghost use Rattle.polynomial.specs.Columns.{paperPair, paperFour};
 ghost use Rattle.sum_rows.specs.Shape.{refusedBy, oneReply, twoReply, fourReply};
 
 pub fn refused(k: u8) -> SumReply

@@ -39,16 +39,16 @@ pub fn work(sum: Sum, vi: f64, vj: f64, is: &[i32], js: &[i32], ns: &[f64]) -> S
 {
     match sum {
         Sum::Unnamed => refused(UNKNOWN),
-        Sum::Poly => one_number(algo::poly_powi(vi, vj, is, js, ns)),
-        Sum::PolyI => one_number(algo::poly_i_powi(vi, vj, is, js, ns)),
-        Sum::PolyIi => one_number(algo::poly_ii_powi(vi, vj, is, js, ns)),
-        Sum::PolyIj => one_number(algo::poly_ij_powi(vi, vj, is, js, ns)),
-        Sum::PolyJ => one_number(algo::poly_j_powi(vi, vj, is, js, ns)),
-        Sum::PolyJj => one_number(algo::poly_jj_powi(vi, vj, is, js, ns)),
-        Sum::Polys0J => two_numbers(algo::polys_0_j_powi(vi, vj, is, js, ns)),
-        Sum::PolysIJ => two_numbers(algo::polys_i_j_powi(vi, vj, is, js, ns)),
-        Sum::PolysIIj => two_numbers(algo::polys_i_ij_powi(vi, vj, is, js, ns)),
-        Sum::PolysIIi => two_numbers(algo::polys_i_ii_powi(vi, vj, is, js, ns)),
-        Sum::PolysIIiIjJj => four_numbers(algo::polys_i_ii_ij_jj_powi(vi, vj, is, js, ns)),
+        Sum::Poly => one_number(polynomial::poly_powi(vi, vj, is, js, ns)),
+        Sum::PolyI => one_number(polynomial::poly_i_powi(vi, vj, is, js, ns)),
+        Sum::PolyIi => one_number(polynomial::poly_ii_powi(vi, vj, is, js, ns)),
+        Sum::PolyIj => one_number(polynomial::poly_ij_powi(vi, vj, is, js, ns)),
+        Sum::PolyJ => one_number(polynomial::poly_j_powi(vi, vj, is, js, ns)),
+        Sum::PolyJj => one_number(polynomial::poly_jj_powi(vi, vj, is, js, ns)),
+        Sum::Polys0J => two_numbers(polynomial::polys_0_j_powi(vi, vj, is, js, ns)),
+        Sum::PolysIJ => two_numbers(polynomial::polys_i_j_powi(vi, vj, is, js, ns)),
+        Sum::PolysIIj => two_numbers(polynomial::polys_i_ij_powi(vi, vj, is, js, ns)),
+        Sum::PolysIIi => two_numbers(polynomial::polys_i_ii_powi(vi, vj, is, js, ns)),
+        Sum::PolysIIiIjJj => four_numbers(polynomial::polys_i_ii_ij_jj_powi(vi, vj, is, js, ns)),
     }
 }

@@ -1,8 +1,8 @@
 -- `sum_rows::shape::four_numbers` meets its contract.
 use mathlib.Core.Path.{sym, ap, _∙_}
 use lib.Ieee.{ofBits}
-use Rattle.algo.specs.Joint.{paperFour}
-use Rattle.algo.specs.declared.FourAnswer.{FourAnswer}
+use Rattle.polynomial.specs.Columns.{paperFour}
+use Rattle.polynomial.specs.declared.FourAnswer.{FourAnswer}
 use Rattle.sum_rows.specs.Shape.{refusedBy, fourReply}
 use borrow.Author.Needs.{needs}
 use Rattle.sum_rows.proofs.shape.four_numbers.Statement.{statement}

@@ -1,8 +1,8 @@
 -- `sum_rows::shape::two_numbers` meets its contract.
 use mathlib.Core.Path.{sym, ap, _∙_}
 use lib.Ieee.{ofBits}
-use Rattle.algo.specs.Joint.{paperPair}
-use Rattle.algo.specs.declared.PairAnswer.{PairAnswer}
+use Rattle.polynomial.specs.Columns.{paperPair}
+use Rattle.polynomial.specs.declared.PairAnswer.{PairAnswer}
 use Rattle.sum_rows.specs.Shape.{refusedBy, twoReply}
 use borrow.Author.Needs.{needs}
 use Rattle.sum_rows.proofs.shape.two_numbers.Statement.{statement}
