@@ -1,13 +1,7 @@
-pub mod Dense
-pub mod Sums
 pub mod Loops
-pub mod Reaches
-pub mod Whole
-pub mod Farthest
-pub mod Refusals
+pub mod Sums
 pub mod Settled
 pub mod Step
-pub mod Looked
 pub mod Constant
 pub mod Pin
 pub mod Unique

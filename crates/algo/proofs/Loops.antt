@@ -1,24 +1,21 @@
 -- A loop over the columns works the rows one by one. Assumes nothing.
 use mathlib.Core.Path.{_≡_, refl, sym, _∙_}
 use mathlib.Core.Logic.{_⊎_, inl, inr, ⊎-elim}
-use mathlib.Core.Bool.{Bool}
 use mathlib.Core.List.{List, [], _∷_}
 use Prim.Native.Nat.{ℕ, zero, suc, _+_, _-_, _^_, _<_, _≤_}
-use native.Mathlib.Nat.{not-suc-le-zero, le-of-suc-le-suc}
 use native.Mathlib.Numerals.{add-one}
 use native.Mathlib.Omega.{arith}
-use lib.Dec.{T}
 use lib.IntN.{ℤ, pos}
 use lib.ListN.{length, getD, drop, drop-of-length-le}
 use lib.Seq.{drop-cons}
 use lib.Signed.{mag}
 use lib.Ieee.{Float, nan, binary64, add}
-use mir.Syntax.{w32}
-use mir.Val.{toZ, ofZ}
+use mir.Syntax.{w32, w64}
+use mir.Val.{SFits, toZ, ofZ}
 use mir.ValLaws.{toZ-ofZ}
-use Rattle.common.specs.Sum.{rawTotal, every}
-use Rattle.common.proofs.Sums.{both-left, both-right}
-use Rattle.algo.specs.Table.{Row, row, rowsOf, rowsFrom}
+use Rattle.common.specs.Sum.{rawTotal}
+use Rattle.algo.specs.Table.{Row, row, rowsOf}
+use Rattle.algo.specs.Raw.{rowsFrom}
 
 -- the row at k
 abbrev pub rowAt : List ℤ → List ℤ → List Float → ℕ → Row
@@ -34,10 +31,6 @@ pub one-more : (u : Row → Float) (s : Float) (is js : List ℤ) (ns : List Flo
     rawTotal u s (rowsFrom is js ns k) ≡ rawTotal u (add binary64 s (u (rowAt is js ns k))) (rowsFrom is js ns (k + 1))
 unfolding rawTotal rowsOf
 one-more u s is js ns k h = rw (add-one, drop-cons is k (pos 0) (h .i), drop-cons js k (pos 0) (h .j), drop-cons ns k nan (h .n))
-
-pub none-left : (u : Row → Float) (s : Float) (is js : List ℤ) (ns : List Float) (k : ℕ) → length is ≡ length ns → length ns ≤ k → rawTotal u s (rowsFrom is js ns k) ≡ s
-unfolding rawTotal rowsOf
-none-left u s is js ns k e h = rw (drop-of-length-le is {i = k} (omega arith))
 
 either : (a b : ℕ) → (a ≤ b) ⊎ (b ≤ a)
 either zero b = inl (omega arith)
@@ -100,19 +93,13 @@ module _ (u : Row → Float) (s : Float) (is js : List ℤ) (ns : List Float) (n
       (λ (h : n ≤ k). none-after (n - (n - k)) (omega arith) ∙ sym (none-after k h))
       (either k n)
 
--- a test that passes at each row passes at the row k
-every-in : (f : Row → Bool) (is js : List ℤ) (ns : List Float) → T (every f (rowsOf is js ns)) → (k : ℕ) → k < length is → k < length js → k < length ns → T (f (rowAt is js ns k))
-unfolding every rowsOf
-every-in f [] js ns t k hi hj hn = absurd (not-suc-le-zero hi)
-every-in f (i ∷ is) [] ns t k hi hj hn = absurd (not-suc-le-zero hj)
-every-in f (i ∷ is) (j ∷ js) [] t k hi hj hn = absurd (not-suc-le-zero hn)
-every-in f (i ∷ is) (j ∷ js) (n ∷ ns) t zero hi hj hn = both-left (f (row i j n)) (every f (rowsOf is js ns)) t
-every-in f (i ∷ is) (j ∷ js) (n ∷ ns) t (suc k) hi hj hn =
-    every-in f is js ns (both-right (f (row i j n)) (every f (rowsOf is js ns)) t) k (le-of-suc-le-suc hi) (le-of-suc-le-suc hj) (le-of-suc-le-suc hn)
-
-pub every-at : (f : Row → Bool) (is js : List ℤ) (ns : List Float) → T (every f (rowsOf is js ns)) → (k : ℕ) → Within is js ns k → T (f (rowAt is js ns k))
-every-at f is js ns t k h = every-in f is js ns t k (h .i) (h .j) (h .n)
-
 -- a signed number that is passed on crosses to its bits and back
 pub back : (z : ℤ) → mag z < 2 ^ 31 → toZ w32 (ofZ w32 z) ≡ z
 back z h = toZ-ofZ w32 z record { sfits = h }
+
+-- and one that is widened first
+pub wider : (z : ℤ) → mag z < 2 ^ 31 → SFits w64 (toZ w32 (ofZ w32 z))
+wider z h = rw (back z h) record { sfits = omega arith }
+
+pub back-wider : (z : ℤ) → mag z < 2 ^ 31 → toZ w64 (ofZ w64 (toZ w32 (ofZ w32 z))) ≡ z
+back-wider z h = toZ-ofZ w64 (toZ w32 (ofZ w32 z)) (wider z h) ∙ back z h

@@ -12,13 +12,13 @@ use Rattle.common.proofs.Laws.{check-kept, inside-check}
 use Rattle.rules.specs.Power.{powerRule}
 use Rattle.rules.specs.RawPower.{rawPower}
 use Rattle.rules.proofs.Powers.{power-check}
-use Rattle.algo.specs.Table.{Row, row, raised, fallen, factor, derived, term, sumRule}
+use Rattle.algo.specs.Table.{Row, row, raised, fallen, factor, differentiated, term, sumRule}
 use Rattle.algo.specs.Raw.{rawFallen}
 use Rattle.algo.specs.Joint.{timesWhole, weigh, over, divided, shared, shareRule}
 use Rattle.algo.specs.declared.Order.{Order}
 use Rattle.algo.specs.declared.Order.the-variants.{Zero, One, Two}
 use Rattle.algo.specs.declared.Share.{Share}
-use Rattle.algo.specs.declared.Share.the-variants.{Whole, I, Next, J, Ii, Ij, Jj}
+use Rattle.algo.specs.declared.Share.the-variants.{Whole, I, IAgain, J, Ii, Ij, Jj}
 
 abbrev pub Settled : Outcome Float → Type 0
 Settled o = check (orNan o) ≡ o
@@ -53,10 +53,10 @@ raised-settled v k x = then-settled (inside (powerRule v k)) _ (power-settled v 
 factor-settled : (d : Order) (v : Float) (k : ℤ) (x : Float) → Settled (factor d v k x)
 factor-settled Zero v k x = raised-settled v k x
 factor-settled One v k x = then-settled (fallen One k x) _ (check-settled (rawFallen One k x)) (λ y _. raised-settled v (k -ℤ pos 1) y)
-factor-settled Two v k x = then-settled (fallen Two k x) _ (check-settled (rawFallen Two k x)) (λ y _. raised-settled v (k -ℤ pos 2) y)
+factor-settled Two v k x = then-settled (fallen Two k x) _ (check-settled (mul binary64 x (ofInt binary64 (k *ℤ (k -ℤ pos 1))))) (λ y _. raised-settled v (k -ℤ pos 2) y)
 
-derived-settled : (a b : Order) (vi vj : Float) (r : Row) → Settled (derived a b vi vj r)
-derived-settled a b vi vj (row i j n) = then-settled (factor a vi i n) _ (factor-settled a vi i n) (λ x _. factor-settled b vj j x)
+differentiated-settled : (a b : Order) (vi vj : Float) (r : Row) → Settled (differentiated a b vi vj r)
+differentiated-settled a b vi vj (row i j n) = then-settled (factor a vi i n) _ (factor-settled a vi i n) (λ x _. factor-settled b vj j x)
 
 whole-settled : (k : ℤ) (x : Float) → Settled (timesWhole k x)
 whole-settled k x = check-settled (mul binary64 (ofInt binary64 k) x)
@@ -64,14 +64,14 @@ whole-settled k x = check-settled (mul binary64 (ofInt binary64 k) x)
 weigh-settled : (s : Share) (i j : ℤ) (x : Float) → finite x ≡ true → Settled (weigh s i j x)
 weigh-settled Whole i j x f = check-kept x f
 weigh-settled I i j x f = whole-settled i x
-weigh-settled Next i j x f = whole-settled (i -ℤ pos 1) x
+weigh-settled IAgain i j x f = whole-settled (i -ℤ pos 1) x
 weigh-settled J i j x f = whole-settled j x
 weigh-settled Ii i j x f = then-settled (timesWhole i x) _ (whole-settled i x) (λ y _. whole-settled (i -ℤ pos 1) y)
 weigh-settled Ij i j x f = then-settled (timesWhole i x) _ (whole-settled i x) (λ y _. whole-settled j y)
 weigh-settled Jj i j x f = whole-settled (j *ℤ (j -ℤ pos 1)) x
 
 shared-settled : (a : Order) (s : Share) (vi vj : Float) (r : Row) → Settled (shared a s vi vj r)
-shared-settled a s vi vj (row i j n) = then-settled (derived a Zero vi vj (row i j n)) _ (derived-settled a Zero vi vj (row i j n)) (weigh-settled s i j)
+shared-settled a s vi vj (row i j n) = then-settled (differentiated a Zero vi vj (row i j n)) _ (differentiated-settled a Zero vi vj (row i j n)) (weigh-settled s i j)
 
 over-settled : (x d : Float) → Settled (over x d)
 over-settled x d = then-settled (check d) _ (check-settled d) (λ d _. check-settled (div binary64 x d))
@@ -79,7 +79,7 @@ over-settled x d = then-settled (check d) _ (check-settled d) (λ d _. check-set
 divided-settled : (s : Share) (vi vj x : Float) → finite x ≡ true → Settled (divided s vi vj x)
 divided-settled Whole vi vj x f = check-kept x f
 divided-settled I vi vj x f = over-settled x vi
-divided-settled Next vi vj x f = over-settled x vi
+divided-settled IAgain vi vj x f = over-settled x vi
 divided-settled J vi vj x f = over-settled x vj
 divided-settled Ii vi vj x f = over-settled x (mul binary64 vi vi)
 divided-settled Ij vi vj x f = over-settled x (mul binary64 vi vj)
@@ -97,8 +97,8 @@ unfolding sumRule
 sums-settled t h vi vj rs =
     then-settled (check vi) _ (check-settled vi) (λ a _. then-settled (check vj) _ (check-settled vj) (λ b _. total-settled (t a b) (h a b) zeroF refl rs))
 
-pub slope-settled : (a b : Order) (vi vj : Float) (rs : List Row) → check (orNan (sumRule (derived a b) vi vj rs)) ≡ sumRule (derived a b) vi vj rs
-slope-settled a b = sums-settled (derived a b) (derived-settled a b)
+pub slope-settled : (a b : Order) (vi vj : Float) (rs : List Row) → check (orNan (sumRule (differentiated a b) vi vj rs)) ≡ sumRule (differentiated a b) vi vj rs
+slope-settled a b = sums-settled (differentiated a b) (differentiated-settled a b)
 
 pub sum-settled : (vi vj : Float) (rs : List Row) → check (orNan (sumRule term vi vj rs)) ≡ sumRule term vi vj rs
 sum-settled = slope-settled Zero Zero

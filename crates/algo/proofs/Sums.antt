@@ -1,85 +1,126 @@
--- A sum of a table with a check at each step is the raw sum checked once, whatever its terms are: a lost number stays lost up to the end.
--- Where the power rule does not take an exponent, the sum is refused with 5. Assumes nothing.
+-- A sum of a table with a check at each step is the raw sum by two tables of powers, checked once, whatever its terms are: a lost number stays lost up to
+-- the end. In order: a term, an item's part in a joint sum, the division at the end, a sum. Assumes nothing.
 use Rattle.common.specs.Formula.{rawOver}
-use mathlib.Core.Path.{_≡_, refl, sym, ap, _∙_, subst}
-use mathlib.Core.Bool.{Bool, true, false, _&&_}
-use mathlib.Core.List.{List, [], _∷_}
-use lib.Dec.{T, leb}
-use lib.IntN.{ℤ, pos, natAbs, _-ℤ_}
-use lib.Ieee.{Float, nan, inf, fin, binary64, add, mul}
-use Rattle.common.specs.Outcome.{Outcome, refused, finite, check, then, orNan, zeroF}
+use Prim.Native.Nat.{ℕ, suc, _-_}
+use native.Mathlib.Omega.{arith}
+use mathlib.Core.Path.{_≡_, refl, sym, ap, _∙_}
+use mathlib.Core.Bool.{Bool, true, false}
+use mathlib.Core.List.{List}
+use lib.Dec.{T, ltb, leb}
+use lib.IntN.{ℤ, pos, negsuc, natAbs, _-ℤ_, _*ℤ_}
+use lib.Ieee.{Float, nan, inf, fin, binary64, mul, ofInt}
+use borrow.Author.Tests.{ltb-true, ltb-false, leb-false, lt-leb}
+use Rattle.common.specs.Outcome.{Outcome, refused, finite, check, then, inside, orNan, zeroF}
 use Rattle.common.specs.Sum.{total, rawTotal, every}
-use Rattle.common.proofs.Laws.{Lost, never, mul-left, mul-right, div-left, check-kept, inside-check, next, step}
-use Rattle.common.proofs.Sums.{both-left, both-right, T-true, total-check}
+use Rattle.common.proofs.Laws.{Lost, never, mul-left, mul-right, div-left, check-kept, check-lost, step}
+use Rattle.common.proofs.Sums.{both-left, both-right, total-check}
 use Rattle.rules.specs.Power.{powerRule}
-use Rattle.rules.specs.RawPower.{rawPower}
-use Rattle.rules.proofs.Powers.{power-check}
-use Rattle.algo.specs.Table.{Row, row, raised, left, factor, derived, sumRule}
+use Rattle.powers.specs.Powers.{lookedUp}
+use Rattle.powers.specs.Reach.{spans}
+use Rattle.powers.proofs.Looked.{Holds}
+use Rattle.algo.specs.Table.{Row, row, raised, left, factor, differentiated, sumRule}
 use Rattle.algo.specs.Joint.{timesWhole, weigh, over, divided, shared, shareRule}
-use Rattle.algo.specs.Raw.{rawFallen, rawFactor, rawDerived, rawWhole, rawWeigh, rawShared, rawDivided, inRange, gate}
+use Rattle.algo.specs.Raw.{fallenBy, rawFallen, tabledFactor, tabledTerm, Summed, rawWhole, rawWeigh, tabledShare, SharesSummed, rawDivided, gate, covers}
 use Rattle.algo.specs.declared.Order.{Order}
 use Rattle.algo.specs.declared.Order.the-variants.{Zero, One, Two}
 use Rattle.algo.specs.declared.Share.{Share}
-use Rattle.algo.specs.declared.Share.the-variants.{Whole, I, Next, J, Ii, Ij, Jj}
+use Rattle.algo.specs.declared.Share.the-variants.{Whole, I, IAgain, J, Ii, Ij, Jj}
 
 -- ---- a term
 
-raised-check : (v : Float) (k : ℤ) (x : Float) → finite v ≡ true → T (leb (natAbs k) 64) → raised v k x ≡ check (mul binary64 x (rawPower v k))
-raised-check v k x fv s =
-    let p = rawPower v k in
-    rw (power-check v k fv (T-true (leb (natAbs k) 64) s), inside-check p)
-    (step p (λ p. check (mul binary64 x p)) (mul binary64 x) (λ _. refl) (mul-right x p))
+-- a power that stands in a table
+abbrev Stands : Float → List Float → ℤ → Type 0
+Stands v w k = inside (powerRule v k) ≡ check (lookedUp w k)
+
+raised-check : (v : Float) (w : List Float) (k : ℤ) (x : Float) → Stands v w k → raised v k x ≡ check (mul binary64 x (lookedUp w k))
+raised-check v w k x h =
+    let p = lookedUp w k in
+    rw h (step p (λ p. check (mul binary64 x p)) (mul binary64 x) (λ _. refl) (mul-right x p))
 
 -- after a step that gives y
-after-check : (y v : Float) (k : ℤ) → finite v ≡ true → T (leb (natAbs k) 64) → then (check y) (raised v k) ≡ check (mul binary64 y (rawPower v k))
-after-check y v k fv s = step y (raised v k) (λ y. mul binary64 y (rawPower v k)) (λ _. raised-check v k y fv s) (mul-left y (rawPower v k))
+after-check : (y v : Float) (w : List Float) (k : ℤ) → Stands v w k → then (check y) (raised v k) ≡ check (mul binary64 y (lookedUp w k))
+after-check y v w k h = step y (raised v k) (λ y. mul binary64 y (lookedUp w k)) (λ _. raised-check v w k y h) (mul-left y (lookedUp w k))
 
-factor-check : (d : Order) (v : Float) (k : ℤ) (x : Float) → finite v ≡ true → T (leb (natAbs (left d k)) 64) → factor d v k x ≡ check (rawFactor d v k x)
-factor-check Zero v k x fv s = raised-check v k x fv s
-factor-check One v k x fv s = after-check (rawFallen One k x) v (k -ℤ pos 1) fv s
-factor-check Two v k x fv s = after-check (rawFallen Two k x) v (k -ℤ pos 2) fv s
+-- an exponent that has no place, differentiated twice or not at all
+far : (k : ℤ) → leb (natAbs k) 66 ≡ false → leb (natAbs (k -ℤ pos 2)) 64 ≡ false
+far (pos a) e = by (ltb a 2) refl
+  where
+    by : (b : Bool) → ltb a 2 ≡ b → leb (natAbs (pos a -ℤ pos 2)) 64 ≡ false
+    by true q = let l = ltb-true a 2 q in let m = leb-false a 66 e in absurd (omega arith)
+    by false q = let l = ltb-false a 2 q in let m = leb-false a 66 e in rw q (lt-leb (a - 2) 64 (omega arith))
+far (negsuc a) e = let l = leb-false (suc a) 66 e in lt-leb (natAbs (negsuc a -ℤ pos 2)) 64 (omega arith)
+
+no-power : (w : List Float) (k : ℤ) → leb (natAbs k) 64 ≡ false → lookedUp w k ≡ nan
+no-power w k e = rw e
+
+-- a step before a refusal
+then-out : (x : Float) (f : Float → Outcome Float) → ((y : Float) → f y ≡ refused 5) → then (check x) f ≡ refused 5
+then-out nan f h = refl
+then-out (inf s) f h = refl
+then-out (fin s m e) f h = h (fin s m e)
+
+twice-check : (b : Bool) (v : Float) (w : List Float) (k : ℤ) (x : Float) → leb (natAbs k) 66 ≡ b → Stands v w (k -ℤ pos 2) → factor Two v k x ≡ check (tabledFactor Two w k x)
+twice-check true v w k x e h = rw e (after-check (mul binary64 x (ofInt binary64 (k *ℤ (k -ℤ pos 1)))) v w (k -ℤ pos 2) h)
+twice-check false v w k x e h =
+    let p = lookedUp w (k -ℤ pos 2) in
+    let none : p ≡ nan = no-power w (k -ℤ pos 2) (far k e) in
+    then-out (mul binary64 x (ofInt binary64 (k *ℤ (k -ℤ pos 1)))) (raised v (k -ℤ pos 2)) (λ y. rw (h, none))
+    ∙ sym (check-lost (tabledFactor Two w k x) (mul-left (rawFallen Two k x) p (mul-right x (fallenBy k) (rw e))))
+
+factor-check : (d : Order) (v : Float) (w : List Float) (k : ℤ) (x : Float) → Stands v w (left d k) → factor d v k x ≡ check (tabledFactor d w k x)
+factor-check Zero v w k x h = raised-check v w k x h
+factor-check One v w k x h = after-check (rawFallen One k x) v w (k -ℤ pos 1) h
+factor-check Two v w k x h = twice-check (leb (natAbs k) 66) v w k x refl h
 
 fallen-lost : (d : Order) (k : ℤ) (x : Float) → Lost x → Lost (rawFallen d k x)
 fallen-lost Zero k x l = l
 fallen-lost One k x l = mul-left x _ l
 fallen-lost Two k x l = mul-left x _ l
 
-factor-lost : (d : Order) (v : Float) (k : ℤ) (x : Float) → Lost x → Lost (rawFactor d v k x)
-factor-lost d v k x l = mul-left (rawFallen d k x) (rawPower v (left d k)) (fallen-lost d k x l)
+factor-lost : (d : Order) (w : List Float) (k : ℤ) (x : Float) → Lost x → Lost (tabledFactor d w k x)
+factor-lost d w k x l = mul-left (rawFallen d k x) (lookedUp w (left d k)) (fallen-lost d k x l)
 
-pub derived-check : (a b : Order) (vi vj : Float) → finite vi ≡ true → finite vj ≡ true → (r : Row) → T (inRange a b r) → derived a b vi vj r ≡ check (rawDerived a b vi vj r)
-derived-check a b vi vj fi fj (row i j n) h =
-    let x = rawFactor a vi i n in
-    rw (factor-check a vi i n fi (both-left (leb (natAbs (left a i)) 64) (leb (natAbs (left b j)) 64) h))
-    (step x (factor b vj j) (rawFactor b vj j)
-    (λ _. factor-check b vj j x fj (both-right (leb (natAbs (left a i)) 64) (leb (natAbs (left b j)) 64) h))
-    (factor-lost b vj j x))
+term-check : (a b : Order) (vi vj : Float) (wi wj : List Float) (i j : ℤ) (n : Float) → Stands vi wi (left a i) → Stands vj wj (left b j)
+    → differentiated a b vi vj (row i j n) ≡ check (tabledTerm a b wi wj (row i j n))
+term-check a b vi vj wi wj i j n hi hj =
+    let x = tabledFactor a wi i n in
+    rw (factor-check a vi wi i n hi)
+    (step x (factor b vj j) (tabledFactor b wj j) (λ _. factor-check b vj wj j x hj) (factor-lost b wj j x))
 
 -- ---- an item's part in a joint sum
 
 weigh-lost : (s : Share) (i j : ℤ) (x : Float) → Lost x → Lost (rawWeigh s i j x)
 weigh-lost Whole i j x l = l
 weigh-lost I i j x l = mul-right _ x l
-weigh-lost Next i j x l = mul-right _ x l
+weigh-lost IAgain i j x l = mul-right _ x l
 weigh-lost J i j x l = mul-right _ x l
 weigh-lost Ii i j x l = mul-right _ (rawWhole i x) (mul-right _ x l)
 weigh-lost Ij i j x l = mul-right _ (rawWhole i x) (mul-right _ x l)
 weigh-lost Jj i j x l = mul-right _ x l
 
-weigh-check : (s : Share) (i j : ℤ) (x : Float) → finite x ≡ true → weigh s i j x ≡ check (rawWeigh s i j x)
-weigh-check Whole i j x f = sym (check-kept x f)
-weigh-check I i j x f = refl
-weigh-check Next i j x f = refl
-weigh-check J i j x f = refl
-weigh-check Ii i j x f = step (rawWhole i x) (timesWhole (i -ℤ pos 1)) (rawWhole (i -ℤ pos 1)) (λ _. refl) (mul-right _ (rawWhole i x))
-weigh-check Ij i j x f = step (rawWhole i x) (timesWhole j) (rawWhole j) (λ _. refl) (mul-right _ (rawWhole i x))
-weigh-check Jj i j x f = refl
+weigh-check : (s : Share) (i j : ℤ) (x : Float) → leb (natAbs j) 66 ≡ true → finite x ≡ true → weigh s i j x ≡ check (rawWeigh s i j x)
+weigh-check Whole i j x e f = sym (check-kept x f)
+weigh-check I i j x e f = refl
+weigh-check IAgain i j x e f = refl
+weigh-check J i j x e f = refl
+weigh-check Ii i j x e f = step (rawWhole i x) (timesWhole (i -ℤ pos 1)) (rawWhole (i -ℤ pos 1)) (λ _. refl) (mul-right _ (rawWhole i x))
+weigh-check Ij i j x e f = step (rawWhole i x) (timesWhole j) (rawWhole j) (λ _. refl) (mul-right _ (rawWhole i x))
+weigh-check Jj i j x e f = rw e
 
-pub shared-check : (a : Order) (s : Share) (vi vj : Float) → finite vi ≡ true → finite vj ≡ true → (r : Row) → T (inRange a Zero r) → shared a s vi vj r ≡ check (rawShared a s vi vj r)
-shared-check a s vi vj fi fj (row i j n) h =
-    let x = rawDerived a Zero vi vj (row i j n) in
-    rw (derived-check a Zero vi vj fi fj (row i j n) h)
-    (step x (weigh s i j) (rawWeigh s i j) (weigh-check s i j x) (weigh-lost s i j x))
+-- an item that is not lost has a j that has a place
+small : (b : Bool) (y : Float) (w : List Float) (j : ℤ) → leb (natAbs j) 66 ≡ b → finite (mul binary64 y (lookedUp w j)) ≡ true → leb (natAbs j) 66 ≡ true
+small true y w j e f = e
+small false y w j e f =
+    let l = leb-false (natAbs j) 66 e in
+    let none : lookedUp w j ≡ nan = no-power w j (lt-leb (natAbs j) 64 (omega arith)) in
+    never (sym f ∙ mul-right y (lookedUp w j) (rw none))
+
+share-check : (a : Order) (s : Share) (vi vj : Float) (wi wj : List Float) (i j : ℤ) (n : Float) → Stands vi wi (left a i) → Stands vj wj j
+    → shared a s vi vj (row i j n) ≡ check (tabledShare a s wi wj (row i j n))
+share-check a s vi vj wi wj i j n hi hj =
+    let x = tabledTerm a Zero wi wj (row i j n) in
+    rw (term-check a Zero vi vj wi wj i j n hi hj)
+    (step x (weigh s i j) (rawWeigh s i j) (λ f. weigh-check s i j x (small (leb (natAbs j) 66) (tabledFactor a wi i n) wj j refl f) f) (weigh-lost s i j x))
 
 -- ---- the division at the end
 
@@ -96,7 +137,7 @@ over-lost x (fin s m e) l = div-left x (fin s m e) l
 divided-check : (s : Share) (vi vj x : Float) → finite x ≡ true → divided s vi vj x ≡ check (rawDivided s vi vj x)
 divided-check Whole vi vj x f = sym (check-kept x f)
 divided-check I vi vj x f = over-check x vi
-divided-check Next vi vj x f = over-check x vi
+divided-check IAgain vi vj x f = over-check x vi
 divided-check J vi vj x f = over-check x vj
 divided-check Ii vi vj x f = over-check x (mul binary64 vi vi)
 divided-check Ij vi vj x f = over-check x (mul binary64 vi vj)
@@ -105,17 +146,13 @@ divided-check Jj vi vj x f = over-check x (mul binary64 vj vj)
 divided-lost : (s : Share) (vi vj x : Float) → Lost x → Lost (rawDivided s vi vj x)
 divided-lost Whole vi vj x l = l
 divided-lost I vi vj x l = over-lost x vi l
-divided-lost Next vi vj x l = over-lost x vi l
+divided-lost IAgain vi vj x l = over-lost x vi l
 divided-lost J vi vj x l = over-lost x vj l
 divided-lost Ii vi vj x l = over-lost x (mul binary64 vi vi) l
 divided-lost Ij vi vj x l = over-lost x (mul binary64 vi vj) l
 divided-lost Jj vi vj x l = over-lost x (mul binary64 vj vj) l
 
 -- ---- a sum
-
--- a term that is the check of a raw one at the rows that pass f
-abbrev Checked : (Float → Float → Row → Outcome Float) → (Float → Float → Row → Float) → (Row → Bool) → Type 0
-Checked t u f = (vi vj : Float) → finite vi ≡ true → finite vj ≡ true → (r : Row) → T (f r) → t vi vj r ≡ check (u vi vj r)
 
 -- what follows the checks of vi and vj
 gated : {A : Type 0} (vi vj : Float) (f : Float → Float → Outcome A) (o : Outcome A) → (finite vi ≡ true → finite vj ≡ true → f vi vj ≡ o)
@@ -126,16 +163,6 @@ gated (fin s m e) nan f o h = refl
 gated (fin s m e) (inf t) f o h = refl
 gated (fin s m e) (fin t n d) f o h = h refl refl
 
-sum-raw : (t : Float → Float → Row → Outcome Float) (u : Float → Float → Row → Float) (f : Row → Bool) → Checked t u f
-    → (vi vj : Float) (rs : List Row) → T (every f rs) → sumRule t vi vj rs ≡ gate vi vj (rawTotal (u vi vj) zeroF rs)
-unfolding sumRule
-sum-raw t u f e vi vj rs h =
-    gated vi vj (λ a b. total (t a b) zeroF rs) (check (rawTotal (u vi vj) zeroF rs))
-    (λ fi fj. total-check (t vi vj) (u vi vj) f (e vi vj fi fj) zeroF rs refl h)
-
-pub derived-raw : (a b : Order) (vi vj : Float) (rs : List Row) → T (every (inRange a b) rs) → sumRule (derived a b) vi vj rs ≡ gate vi vj (rawTotal (rawDerived a b vi vj) zeroF rs)
-derived-raw a b = sum-raw (derived a b) (rawDerived a b) (inRange a b) (derived-check a b)
-
 -- a step after the gate
 gate-then : (vi vj x : Float) (f : Float → Outcome Float) (g : Float → Float) → (finite x ≡ true → f x ≡ check (g x)) → (Lost x → Lost (g x)) → then (gate vi vj x) f ≡ gate vi vj (g x)
 gate-then nan vj x f g ok bad = refl
@@ -144,72 +171,43 @@ gate-then (fin s m e) nan x f g ok bad = refl
 gate-then (fin s m e) (inf t) x f g ok bad = refl
 gate-then (fin s m e) (fin t n d) x f g ok bad = step x f g ok bad
 
-pub share-raw : (a : Order) (s : Share) (vi vj : Float) (rs : List Row) → T (every (inRange a Zero) rs) → shareRule a s vi vj rs ≡ gate vi vj (rawDivided s vi vj (rawTotal (rawShared a s vi vj) zeroF rs))
-unfolding shareRule
-share-raw a s vi vj rs h =
-    let x = rawTotal (rawShared a s vi vj) zeroF rs in
-    rw (sum-raw (shared a s) (rawShared a s) (inRange a Zero) (shared-check a s) vi vj rs h)
-    (gate-then vi vj x (divided s vi vj) (rawDivided s vi vj) (divided-check s vi vj x) (divided-lost s vi vj x))
+-- two tables that have the powers of vi and vj so far
+module _ (vi vj : Float) (wi wj : List Float) (ui di uj dj : ℕ) (hi : Holds vi wi ui di) (hj : Holds vj wj uj dj) where
+  -- whatever the terms are, that are the check of raw ones at the rows that go no further
+  sum-raw : (a b : Order) (t : Float → Float → Row → Outcome Float) (u : Row → Float)
+      → (finite vi ≡ true → finite vj ≡ true → (r : Row) → T (covers a b ui di uj dj r) → t vi vj r ≡ check (u r))
+      → (rs : List Row) → T (every (covers a b ui di uj dj) rs) → sumRule t vi vj rs ≡ gate vi vj (rawTotal u zeroF rs)
+  unfolding sumRule
+  sum-raw a b t u e rs h =
+      gated vi vj (λ x y. total (t x y) zeroF rs) (check (rawTotal u zeroF rs))
+      (λ fi fj. total-check (t vi vj) u (covers a b ui di uj dj) (e fi fj) zeroF rs refl h)
 
--- what ends a joint sum: x is the raw sum, and r is x divided and settled
-pub share-ends : (a : Order) (s : Share) (vi vj : Float) (rs : List Row) → T (every (inRange a Zero) rs) → (r x : Float) → r ≡ orNan (gate vi vj (rawDivided s vi vj x))
-    → x ≡ rawTotal (rawShared a s vi vj) zeroF rs → r ≡ orNan (shareRule a s vi vj rs)
-share-ends a s vi vj rs h r x p q = p ∙ ap (λ (x : Float). orNan (gate vi vj (rawDivided s vi vj x))) q ∙ ap orNan (sym (share-raw a s vi vj rs h))
+  stands-i : (a b : Order) (i j : ℤ) (n : Float) → finite vi ≡ true → T (covers a b ui di uj dj (row i j n)) → Stands vi wi (left a i)
+  stands-i a b i j n f t = hi (left a i) f (both-left (spans ui di (left a i)) (spans uj dj (left b j)) t)
 
--- ---- a table with an exponent that the power rule does not take
+  stands-j : (a b : Order) (i j : ℤ) (n : Float) → finite vj ≡ true → T (covers a b ui di uj dj (row i j n)) → Stands vj wj (left b j)
+  stands-j a b i j n f t = hj (left b j) f (both-right (spans ui di (left a i)) (spans uj dj (left b j)) t)
 
--- a step before a refusal
-then-out : {A : Type 0} (x : Float) (f : Float → Outcome A) → ((y : Float) → f y ≡ refused 5) → then (check x) f ≡ refused 5
-then-out nan f h = refl
-then-out (inf s) f h = refl
-then-out (fin s m e) f h = h (fin s m e)
+  slope-raw : (a b : Order) (rs : List Row) → T (every (covers a b ui di uj dj) rs) → sumRule (differentiated a b) vi vj rs ≡ gate vi vj (rawTotal (tabledTerm a b wi wj) zeroF rs)
+  slope-raw a b =
+      sum-raw a b (differentiated a b) (tabledTerm a b wi wj) each
+    where
+      each : finite vi ≡ true → finite vj ≡ true → (r : Row) → T (covers a b ui di uj dj r) → differentiated a b vi vj r ≡ check (tabledTerm a b wi wj r)
+      each fi fj (row i j n) t = term-check a b vi vj wi wj i j n (stands-i a b i j n fi t) (stands-j a b i j n fj t)
 
-raised-out : (v : Float) (k : ℤ) (x : Float) → finite v ≡ true → leb (natAbs k) 64 ≡ false → raised v k x ≡ refused 5
-unfolding powerRule
-raised-out v k x fv big = rw (fv, big)
+  share-raw : (a : Order) (s : Share) (rs : List Row) → T (every (covers a Zero ui di uj dj) rs) → shareRule a s vi vj rs ≡ gate vi vj (rawDivided s vi vj (rawTotal (tabledShare a s wi wj) zeroF rs))
+  unfolding shareRule
+  share-raw a s rs h =
+      let x = rawTotal (tabledShare a s wi wj) zeroF rs in
+      rw (sum-raw a Zero (shared a s) (tabledShare a s wi wj) each rs h)
+      (gate-then vi vj x (divided s vi vj) (rawDivided s vi vj) (divided-check s vi vj x) (divided-lost s vi vj x))
+    where
+      each : finite vi ≡ true → finite vj ≡ true → (r : Row) → T (covers a Zero ui di uj dj r) → shared a s vi vj r ≡ check (tabledShare a s wi wj r)
+      each fi fj (row i j n) t = share-check a s vi vj wi wj i j n (stands-i a Zero i j n fi t) (stands-j a Zero i j n fj t)
 
-factor-out : (d : Order) (v : Float) (k : ℤ) (x : Float) → finite v ≡ true → leb (natAbs (left d k)) 64 ≡ false → factor d v k x ≡ refused 5
-factor-out Zero v k x fv big = raised-out v k x fv big
-factor-out One v k x fv big = then-out (rawFallen One k x) _ (λ y. raised-out v (k -ℤ pos 1) y fv big)
-factor-out Two v k x fv big = then-out (rawFallen Two k x) _ (λ y. raised-out v (k -ℤ pos 2) y fv big)
+  -- what a function that fills both tables gives: x is the raw sum, and z is x settled, or divided and settled
+  pub slope-ends : {a b : Order} {rs : List Row} {x z : Float} → T (every (covers a b ui di uj dj) rs) → Summed a b wi wj rs x → z ≡ orNan (gate vi vj x) → z ≡ orNan (sumRule (differentiated a b) vi vj rs)
+  slope-ends {a} {b} {rs} t h g = g ∙ ap (λ (y : Float). orNan (gate vi vj y)) (h .is) ∙ ap orNan (sym (slope-raw a b rs t))
 
-derived-out-by : (p q : Bool) (a b : Order) (vi vj : Float) → finite vi ≡ true → finite vj ≡ true → (i j : ℤ) (n : Float) → leb (natAbs (left a i)) 64 ≡ p → leb (natAbs (left b j)) 64 ≡ q → (p && q) ≡ false → derived a b vi vj (row i j n) ≡ refused 5
-derived-out-by false q a b vi vj fi fj i j n ei ej h = rw (factor-out a vi i n fi ei)
-derived-out-by true true a b vi vj fi fj i j n ei ej h = never h
-derived-out-by true false a b vi vj fi fj i j n ei ej h =
-    rw (factor-check a vi i n fi (subst T (sym ei) tt))
-    (then-out (rawFactor a vi i n) _ (λ y. factor-out b vj j y fj ej))
-
-derived-out : (a b : Order) (vi vj : Float) → finite vi ≡ true → finite vj ≡ true → (r : Row) → inRange a b r ≡ false → derived a b vi vj r ≡ refused 5
-derived-out a b vi vj fi fj (row i j n) h = derived-out-by (leb (natAbs (left a i)) 64) (leb (natAbs (left b j)) 64) a b vi vj fi fj i j n refl refl h
-
-shared-out : (a : Order) (s : Share) (vi vj : Float) → finite vi ≡ true → finite vj ≡ true → (r : Row) → inRange a Zero r ≡ false → shared a s vi vj r ≡ refused 5
-shared-out a s vi vj fi fj (row i j n) h = rw (derived-out a Zero vi vj fi fj (row i j n) h)
-
-module _ (t : Row → Outcome Float) (u : Row → Float) (f : Row → Bool) (inner : (r : Row) → T (f r) → t r ≡ check (u r)) (outer : (r : Row) → f r ≡ false → t r ≡ refused 5) where
-  total-out-by : (b : Bool) (s : Float) (r : Row) (rs : List Row) → f r ≡ b → (b && every f rs) ≡ false → ((s : Float) → every f rs ≡ false → total t s rs ≡ refused 5) → total t s (r ∷ rs) ≡ refused 5
-  unfolding total
-  total-out-by false s r rs e h later = rw (outer r e)
-  total-out-by true s r rs e h later =
-      rw (inner r (subst T (sym e) tt)) (then-out (u r) _ (λ x. then-out (add binary64 s x) _ (λ s'. later s' h)))
-
-  total-out : (s : Float) (rs : List Row) → every f rs ≡ false → total t s rs ≡ refused 5
-  unfolding every
-  total-out s [] h = never h
-  total-out s (r ∷ rs) h = total-out-by (f r) s r rs refl h (λ s'. total-out s' rs)
-
-sum-out : (t : Float → Float → Row → Outcome Float) (u : Float → Float → Row → Float) (f : Row → Bool) → Checked t u f
-    → ((vi vj : Float) → finite vi ≡ true → finite vj ≡ true → (r : Row) → f r ≡ false → t vi vj r ≡ refused 5)
-    → (vi vj : Float) (rs : List Row) → every f rs ≡ false → sumRule t vi vj rs ≡ refused 5
-unfolding sumRule
-sum-out t u f inner outer vi vj rs h =
-    next vi _ (refused 5)
-    (λ fi. next vj _ (refused 5) (λ fj. total-out (t vi vj) (u vi vj) f (inner vi vj fi fj) (outer vi vj fi fj) zeroF rs h) (λ _. refl))
-    (λ _. refl)
-
-pub derived-sum-out : (a b : Order) (vi vj : Float) (rs : List Row) → every (inRange a b) rs ≡ false → sumRule (derived a b) vi vj rs ≡ refused 5
-derived-sum-out a b = sum-out (derived a b) (rawDerived a b) (inRange a b) (derived-check a b) (derived-out a b)
-
-pub share-out : (a : Order) (s : Share) (vi vj : Float) (rs : List Row) → every (inRange a Zero) rs ≡ false → shareRule a s vi vj rs ≡ refused 5
-unfolding shareRule
-share-out a s vi vj rs h = rw (sum-out (shared a s) (rawShared a s) (inRange a Zero) (shared-check a s) (shared-out a s) vi vj rs h)
+  pub share-ends : {a : Order} {s : Share} {rs : List Row} {x z : Float} → T (every (covers a Zero ui di uj dj) rs) → SharesSummed a s wi wj rs x → z ≡ orNan (gate vi vj (rawDivided s vi vj x)) → z ≡ orNan (shareRule a s vi vj rs)
+  share-ends {a} {s} {rs} t h g = g ∙ ap (λ (y : Float). orNan (gate vi vj (rawDivided s vi vj y))) (h .is) ∙ ap orNan (sym (share-raw a s rs t))

@@ -1,21 +1,14 @@
--- The sums that share an item of each row and are divided once at their end, each step checked: the `polys` of
+-- To believe: the sums that share an item of each row and are divided once at their end, each step checked: the `polys` of
 -- algo/polynomial.rs and algo/polynomial_steps.rs. Assumes nothing: these are definitions.
 use mathlib.Core.List.{List}
 use lib.IntN.{ℤ, pos, _-ℤ_, _*ℤ_}
 use lib.Ieee.{Float, binary64, mul, div, ofInt}
-use Rattle.common.specs.Outcome.{Outcome, value, refused, check, then}
-use Rattle.common.specs.Answer.{numberOf}
-use Rattle.algo.specs.Table.{Row, row, derived, sumRule, byColumns}
+use Rattle.common.specs.Outcome.{Outcome, value, check, then}
+use Rattle.algo.specs.Table.{Row, row, differentiated, sumRule}
 use Rattle.algo.specs.declared.Order.{Order}
 use Rattle.algo.specs.declared.Order.the-variants.{Zero}
 use Rattle.algo.specs.declared.Share.{Share}
-use Rattle.algo.specs.declared.Share.the-variants.{Whole, I, Next, J, Ii, Ij, Jj}
-use Rattle.algo.specs.declared.Pair.{Pair}
-use Rattle.algo.specs.declared.Four.{Four}
-use Rattle.algo.specs.declared.PairAnswer.{PairAnswer}
-use Rattle.algo.specs.declared.PairAnswer.the-variants as pairs
-use Rattle.algo.specs.declared.FourAnswer.{FourAnswer}
-use Rattle.algo.specs.declared.FourAnswer.the-variants as fours
+use Rattle.algo.specs.declared.Share.the-variants.{Whole, I, IAgain, J, Ii, Ij, Jj}
 
 -- k * x
 abbrev pub timesWhole : ℤ → Float → Outcome Float
@@ -25,7 +18,7 @@ timesWhole k x = check (mul binary64 (ofInt binary64 k) x)
 abbrev pub weigh : Share → ℤ → ℤ → Float → Outcome Float
 weigh Whole i j x = value x
 weigh I i j x = timesWhole i x
-weigh Next i j x = timesWhole (i -ℤ pos 1) x
+weigh IAgain i j x = timesWhole (i -ℤ pos 1) x
 weigh J i j x = timesWhole j x
 weigh Ii i j x = then (timesWhole i x) (timesWhole (i -ℤ pos 1))
 weigh Ij i j x = then (timesWhole i x) (timesWhole j)
@@ -39,40 +32,15 @@ over x d = then (check d) (λ d. check (div binary64 x d))
 abbrev pub divided : Share → Float → Float → Float → Outcome Float
 divided Whole vi vj x = value x
 divided I vi vj x = over x vi
-divided Next vi vj x = over x vi
+divided IAgain vi vj x = over x vi
 divided J vi vj x = over x vj
 divided Ii vi vj x = over x (mul binary64 vi vi)
 divided Ij vi vj x = over x (mul binary64 vi vj)
 divided Jj vi vj x = over x (mul binary64 vj vj)
 
--- the item is (n * vi^I) * vj^J, or ((n * I) * vi^(I-1)) * vj^J where vi's power is derived
+-- the item is (n * vi^I) * vj^J, or ((n * I) * vi^(I-1)) * vj^J where vi's power is differentiated
 abbrev pub shared : Order → Share → Float → Float → Row → Outcome Float
-shared a s vi vj (row i j n) = then (derived a Zero vi vj (row i j n)) (weigh s i j)
+shared a s vi vj (row i j n) = then (differentiated a Zero vi vj (row i j n)) (weigh s i j)
 
 unfoldable pub shareRule : Order → Share → Float → Float → List Row → Outcome Float
 shareRule a s vi vj rs = then (sumRule (shared a s) vi vj rs) (divided s vi vj)
-
--- ---- two and four sums of one item
-
-abbrev pub pairOf : Outcome Float → Outcome Float → Outcome Pair
-pairOf o p = then o (λ x. then p (λ y. value record { first = x; second = y }))
-
-abbrev pub fourOf : Outcome Float → Outcome Float → Outcome Float → Outcome Float → Outcome Four
-fourOf o p q r = then o (λ x. then p (λ y. then q (λ z. then r (λ w. value record { i = x; ii = y; ij = z; jj = w }))))
-
-unfoldable pub pairTable : Order → Share → Share → Float → Float → List ℤ → List ℤ → List Float → Outcome Pair
-pairTable a s t vi vj = byColumns (λ rs. pairOf (shareRule a s vi vj rs) (shareRule a t vi vj rs))
-
-unfoldable pub fourTable : Float → Float → List ℤ → List ℤ → List Float → Outcome Four
-fourTable vi vj =
-    byColumns (λ rs. fourOf (shareRule Zero I vi vj rs) (shareRule Zero Ii vi vj rs) (shareRule Zero Ij vi vj rs) (shareRule Zero Jj vi vj rs))
-
--- ---- the paper's number and value of an answer
-
-abbrev pub paperPair : PairAnswer → Outcome Pair
-paperPair (pairs.Value p) = value p
-paperPair (pairs.Refused k) = refused (numberOf k)
-
-abbrev pub paperFour : FourAnswer → Outcome Four
-paperFour (fours.Value p) = value p
-paperFour (fours.Refused k) = refused (numberOf k)

@@ -1,6 +1,3 @@
 pub mod Table
 pub mod Joint
-pub mod Dense
 pub mod Raw
-pub mod Reach
-pub mod Columns

@@ -1,39 +1,50 @@
--- The same sums with no check: a lost number travels as itself. Assumes nothing: these are definitions.
+-- What crates promise each other of a sum, and helps proofs; no public call's answer speaks of it. The same sums by two tables of powers and with no check:
+-- a lost number travels as itself, and an exponent that has no place in a table gives one. Assumes nothing: these are definitions.
 use Rattle.common.specs.Formula.{rawOver}
+use Prim.Native.Nat.{ℕ}
 use mathlib.Core.Path.{_≡_}
 use mathlib.Core.List.{List}
-use mathlib.Core.Bool.{Bool, _&&_}
+use mathlib.Core.Bool.{Bool, cond, _&&_}
 use lib.Dec.{leb}
 use lib.IntN.{ℤ, pos, natAbs, _-ℤ_, _*ℤ_}
-use lib.Ieee.{Float, binary64, mul, div, ofInt}
+use lib.ListN.{drop}
+use lib.Ieee.{Float, nan, binary64, mul, ofInt}
 use Rattle.common.specs.Outcome.{Outcome, check, then, zeroF}
 use Rattle.common.specs.Sum.{rawTotal}
-use Rattle.rules.specs.RawPower.{rawPower}
-use Rattle.algo.specs.Table.{Row, row, left}
-use Rattle.algo.specs.Dense.{lookedUp}
+use Rattle.powers.specs.Powers.{lookedUp}
+use Rattle.powers.specs.Reach.{spans}
+use Rattle.algo.specs.Table.{Row, row, rowsOf, left}
 use Rattle.algo.specs.declared.Order.{Order}
 use Rattle.algo.specs.declared.Order.the-variants.{Zero, One, Two}
 use Rattle.algo.specs.declared.Share.{Share}
-use Rattle.algo.specs.declared.Share.the-variants.{Whole, I, Next, J, Ii, Ij, Jj}
+use Rattle.algo.specs.declared.Share.the-variants.{Whole, I, IAgain, J, Ii, Ij, Jj}
+
+-- the rows from k on
+abbrev pub rowsFrom : List ℤ → List ℤ → List Float → ℕ → List Row
+rowsFrom is js ns k = rowsOf (drop k is) (drop k js) (drop k ns)
+
+-- ---- a term
+
+-- k*(k-1), of an exponent that differentiated twice may have a place, and a NaN of any other
+abbrev pub fallenBy : ℤ → Float
+fallenBy k = cond (leb (natAbs k) 66) (ofInt binary64 (k *ℤ (k -ℤ pos 1))) nan
 
 abbrev pub rawFallen : Order → ℤ → Float → Float
 rawFallen Zero k x = x
 rawFallen One k x = mul binary64 x (ofInt binary64 k)
-rawFallen Two k x = mul binary64 x (ofInt binary64 (k *ℤ (k -ℤ pos 1)))
+rawFallen Two k x = mul binary64 x (fallenBy k)
 
-abbrev pub rawFactor : Order → Float → ℤ → Float → Float
-rawFactor d v k x = mul binary64 (rawFallen d k x) (rawPower v (left d k))
+abbrev pub tabledFactor : Order → List Float → ℤ → Float → Float
+tabledFactor d w k x = mul binary64 (rawFallen d k x) (lookedUp w (left d k))
 
-abbrev pub rawDerived : Order → Order → Float → Float → Row → Float
-rawDerived a b vi vj (row i j n) = rawFactor b vj j (rawFactor a vi i n)
+abbrev pub tabledTerm : Order → Order → List Float → List Float → Row → Float
+tabledTerm a b wi wj (row i j n) = tabledFactor b wj j (tabledFactor a wi i n)
 
--- (n * vi^I) * vj^J, the powers looked up in two tables
-abbrev pub tabled : List Float → List Float → Row → Float
-tabled wi wj (row i j n) = mul binary64 (mul binary64 n (lookedUp wi i)) (lookedUp wj j)
+-- x is the sum of the rows' terms
+pub record Summed (a b : Order) (wi wj : List Float) (rs : List Row) (x : Float) : Type 0 where
+  pub is : x ≡ rawTotal (tabledTerm a b wi wj) zeroF rs
 
--- x is the sum of the rows by two tables
-pub record Tabled (wi wj : List Float) (rs : List Row) (x : Float) : Type 0 where
-  pub is : x ≡ rawTotal (tabled wi wj) zeroF rs
+-- ---- an item's part in a joint sum
 
 abbrev pub rawWhole : ℤ → Float → Float
 rawWhole k x = mul binary64 (ofInt binary64 k) x
@@ -41,28 +52,34 @@ rawWhole k x = mul binary64 (ofInt binary64 k) x
 abbrev pub rawWeigh : Share → ℤ → ℤ → Float → Float
 rawWeigh Whole i j x = x
 rawWeigh I i j x = rawWhole i x
-rawWeigh Next i j x = rawWhole (i -ℤ pos 1) x
+rawWeigh IAgain i j x = rawWhole (i -ℤ pos 1) x
 rawWeigh J i j x = rawWhole j x
 rawWeigh Ii i j x = rawWhole (i -ℤ pos 1) (rawWhole i x)
 rawWeigh Ij i j x = rawWhole j (rawWhole i x)
-rawWeigh Jj i j x = rawWhole (j *ℤ (j -ℤ pos 1)) x
+rawWeigh Jj i j x = mul binary64 (fallenBy j) x
 
-abbrev pub rawShared : Order → Share → Float → Float → Row → Float
-rawShared a s vi vj (row i j n) = rawWeigh s i j (rawDerived a Zero vi vj (row i j n))
+abbrev pub tabledShare : Order → Share → List Float → List Float → Row → Float
+tabledShare a s wi wj (row i j n) = rawWeigh s i j (tabledTerm a Zero wi wj (row i j n))
+
+-- x is the sum of the rows' parts
+pub record SharesSummed (a : Order) (s : Share) (wi wj : List Float) (rs : List Row) (x : Float) : Type 0 where
+  pub is : x ≡ rawTotal (tabledShare a s wi wj) zeroF rs
 
 abbrev pub rawDivided : Share → Float → Float → Float → Float
 rawDivided Whole vi vj x = x
 rawDivided I vi vj x = rawOver x vi
-rawDivided Next vi vj x = rawOver x vi
+rawDivided IAgain vi vj x = rawOver x vi
 rawDivided J vi vj x = rawOver x vj
 rawDivided Ii vi vj x = rawOver x (mul binary64 vi vi)
 rawDivided Ij vi vj x = rawOver x (mul binary64 vi vj)
 rawDivided Jj vi vj x = rawOver x (mul binary64 vj vj)
 
--- the power rule takes a row's exponents
-abbrev pub inRange : Order → Order → Row → Bool
-inRange a b (row i j n) = leb (natAbs (left a i)) 64 && leb (natAbs (left b j)) 64
+-- ---- what surrounds a sum
 
 -- a raw sum of finite vi and vj, checked once
 abbrev pub gate : Float → Float → Float → Outcome Float
 gate vi vj x = then (check vi) (λ _. then (check vj) (λ _. check x))
+
+-- a row's exponents go no further than from -di to ui, and from -dj to uj
+abbrev pub covers : Order → Order → ℕ → ℕ → ℕ → ℕ → Row → Bool
+covers a b ui di uj dj (row i j n) = spans ui di (left a i) && spans uj dj (left b j)

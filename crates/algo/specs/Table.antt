@@ -1,13 +1,9 @@
--- The sums over a table of rows I, J, n, in table order, each step checked: algo/polynomial.rs and algo/polynomial_steps.rs.
--- Assumes nothing: these are definitions.
-use mathlib.Core.Bool.{cond}
-use Prim.Native.Nat.{ℕ}
+-- To believe: the sums over a table of rows I, J, n, in table order, each step checked: algo/polynomial.rs and algo/polynomial_steps.rs.
+-- In order: a table by its columns, a term, a sum. Assumes nothing: these are definitions.
 use mathlib.Core.List.{List, [], _∷_}
-use lib.Dec.{eqb}
 use lib.IntN.{ℤ, pos, _-ℤ_, _*ℤ_}
-use lib.ListN.{length, drop}
 use lib.Ieee.{Float, binary64, mul, ofInt}
-use Rattle.common.specs.Outcome.{Outcome, value, refused, check, then, inside, zeroF}
+use Rattle.common.specs.Outcome.{Outcome, value, check, then, inside, zeroF}
 use Rattle.common.specs.Sum.{total}
 use Rattle.rules.specs.Power.{powerRule}
 use Rattle.algo.specs.declared.Order.{Order}
@@ -23,17 +19,13 @@ rowsOf (i ∷ is) [] ns = []
 rowsOf (i ∷ is) (j ∷ js) [] = []
 rowsOf (i ∷ is) (j ∷ js) (n ∷ ns) = row i j n ∷ rowsOf is js ns
 
--- the rows from k on
-abbrev pub rowsFrom : List ℤ → List ℤ → List Float → ℕ → List Row
-rowsFrom is js ns k = rowsOf (drop k is) (drop k js) (drop k ns)
-
 -- ---- a term
 
 -- x * v^k
 abbrev pub raised : Float → ℤ → Float → Outcome Float
 raised v k x = then (inside (powerRule v k)) (λ p. check (mul binary64 x p))
 
--- what is left of the exponent k of a power that is derived so often
+-- what is left of the exponent k of a power that is differentiated so often
 abbrev pub left : Order → ℤ → ℤ
 left Zero k = k
 left One k = k -ℤ pos 1
@@ -50,45 +42,38 @@ abbrev pub factor : Order → Float → ℤ → Float → Outcome Float
 factor d v k x = then (fallen d k x) (raised v (left d k))
 
 -- n with its two factors, the one of vi first
-abbrev pub derived : Order → Order → Float → Float → Row → Outcome Float
-derived a b vi vj (row i j n) = then (factor a vi i n) (factor b vj j)
+abbrev pub differentiated : Order → Order → Float → Float → Row → Outcome Float
+differentiated a b vi vj (row i j n) = then (factor a vi i n) (factor b vj j)
 
 -- (n * vi^I) * vj^J
 abbrev pub term : Float → Float → Row → Outcome Float
-term = derived Zero Zero
+term = differentiated Zero Zero
 
 -- ((n * I) * vi^(I-1)) * vj^J
 abbrev pub termI : Float → Float → Row → Outcome Float
-termI = derived One Zero
+termI = differentiated One Zero
 
 -- ((n * (I*(I-1))) * vi^(I-2)) * vj^J
 abbrev pub termII : Float → Float → Row → Outcome Float
-termII = derived Two Zero
+termII = differentiated Two Zero
 
 -- (((n * I) * vi^(I-1)) * J) * vj^(J-1)
 abbrev pub termIJ : Float → Float → Row → Outcome Float
-termIJ = derived One One
+termIJ = differentiated One One
 
 -- ((n * vi^I) * J) * vj^(J-1)
 abbrev pub termJ : Float → Float → Row → Outcome Float
-termJ = derived Zero One
+termJ = differentiated Zero One
 
 -- ((n * vi^I) * (J*(J-1))) * vj^(J-2)
 abbrev pub termJJ : Float → Float → Row → Outcome Float
-termJJ = derived Zero Two
+termJJ = differentiated Zero Two
 
 -- ---- a sum
 
 -- the sum of a table's terms at finite vi and vj, refused with 5 otherwise
 unfoldable pub sumRule : (Float → Float → Row → Outcome Float) → Float → Float → List Row → Outcome Float
 sumRule t vi vj rs = then (check vi) (λ a. then (check vj) (λ b. total (t a b) zeroF rs))
-
--- a rule over the rows of a table that is lent by its columns: 7 for columns of unequal length
-abbrev pub byColumns : {A : Type 0} → (List Row → Outcome A) → List ℤ → List ℤ → List Float → Outcome A
-byColumns f is js ns = cond (eqb (length is) (length ns)) (cond (eqb (length js) (length ns)) (f (rowsOf is js ns)) (refused 7)) (refused 7)
-
-unfoldable pub tableRule : (Float → Float → Row → Outcome Float) → Float → Float → List ℤ → List ℤ → List Float → Outcome Float
-tableRule t vi vj = byColumns (sumRule t vi vj)
 
 -- the sum of n * x^I * y^J over the rows as a step of a formula, x worked before y
 abbrev pub sumOf : Outcome Float → Outcome Float → List Row → Outcome Float

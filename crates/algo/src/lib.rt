@@ -1,78 +1,86 @@
-// The sums over the rows I, J, n of a table, in table order: algo/polynomial.rs and algo/polynomial_steps.rs.
-// A table is lent by its columns. `powers` has the powers of a base, `columns` how far a table's exponents go, `items` a row's part in
-// a sum, `known` the raw sums of a table whose reach is known and `polynomial` the calls with the Rust's names, which are total.
-mod columns;
-mod items;
-mod polynomial;
-mod powers;
-mod unchecked;
+// The sums over the rows I, J, n of a table, in table order (algo/polynomial.rs and algo/polynomial_steps.rs): how they are defined, and the plain sum,
+// which the printed tables take. A table is lent by its columns. `slopes` has the sums of differentiated terms, `polynomial` the Rust's calls.
+use common::is_finite;
+use common::least;
+use powers::power_in;
+ghost use mathlib.Core.Path.{_≡_};
+ghost use Prim.Native.Nat.{_≤_};
+ghost use lib.ListN.{length};
+ghost use Rattle.common.specs.Outcome.{orNan};
+ghost use Rattle.common.specs.Sum.{rawTotal};
+ghost use Rattle.algo.specs.Table.{rowsOf};
+ghost use Rattle.algo.specs.Raw.{rowsFrom, tabledTerm, Summed, gate};
 
-use common::Refusal;
-pub use items::plain_sum;
-pub use polynomial::poly_i_powi;
-pub use polynomial::poly_ii_powi;
-pub use polynomial::poly_ij_powi;
-pub use polynomial::poly_j_powi;
-pub use polynomial::poly_jj_powi;
-pub use polynomial::poly_powi;
-pub use polynomial::polys_0_j_powi;
-pub use polynomial::polys_i_ii_ij_jj_powi;
-pub use polynomial::polys_i_ii_powi;
-pub use polynomial::polys_i_ij_powi;
-pub use polynomial::polys_i_j_powi;
-pub use powers::fill_powers;
-pub use unchecked::gated;
-pub use unchecked::unchecked_four;
-pub use unchecked::unchecked_pair;
-pub use unchecked::unchecked_sum;
-
-// How often a power of a table's term is derived by its base.
+// How often a power of a table's term is differentiated by its base.
 pub enum Order {
     Zero,
     One,
     Two,
 }
 
-// How a sum takes up an item that it shares with others: whole, or derived by vi, by vj, or twice. The item is multiplied by its
-// exponent then, and the sum is divided by the base once at its end. `Next` is by vi for an item that is derived by vi already.
+// How a sum takes up an item that it shares with others: whole, or differentiated by vi, by vj, or twice. The item is multiplied by its
+// exponent then, and the sum is divided by the base once at its end. `IAgain` is by vi for an item that is differentiated by vi already.
 pub enum Share {
     Whole,
     I,
-    Next,
+    IAgain,
     J,
     Ii,
     Ij,
     Jj,
 }
 
-// How far the exponents of a sum's powers go, up and down.
-pub struct Reach {
-    pub up_i: u32,
-    pub down_i: u32,
-    pub up_j: u32,
-    pub down_j: u32,
+// The number x of finite vi and vj, or a NaN.
+pub fn gated(vi: f64, vj: f64, x: f64) -> f64
+    ensures { λ r. ⌜ r ≡ orNan (gate vi vj x) ⌝ }
+{
+    if is_finite(vi) {
+        if is_finite(vj) {
+            if is_finite(x) {
+                return x;
+            }
+            return 0.0 / 0.0;
+        }
+        return 0.0 / 0.0;
+    }
+    0.0 / 0.0
 }
 
-// Two sums of one item, in the order of the call's name.
-pub struct Pair {
-    pub first: f64,
-    pub second: f64,
+// The rows from `start` to below `end`, added to a sum.
+fn plain_part(
+    before: f64,
+    start: usize,
+    end: usize,
+    wi: &[f64; 129],
+    wj: &[f64; 129],
+    is: &[i32],
+    js: &[i32],
+    ns: &[f64],
+) -> f64
+    requires { ⌜ (start ≤ end) × (end ≤ length (now is)) × (end ≤ length (now js)) × (end ≤ length (now ns)) ⌝ }
+    ensures { λ x. ⌜ rawTotal (tabledTerm Order.Zero Order.Zero (now (wi .entry)) (now (wj .entry))) before (rowsFrom (now (is .entry)) (now (js .entry)) (now (ns .entry)) start)
+        ≡ rawTotal (tabledTerm Order.Zero Order.Zero (now (wi .entry)) (now (wj .entry))) x (rowsFrom (now (is .entry)) (now (js .entry)) (now (ns .entry)) end) ⌝ }
+{
+    let mut sum = before;
+    let mut k = start;
+    while k < end {
+        sum += ns[k] * power_in(wi, is[k] as i64) * power_in(wj, js[k] as i64);
+        k += 1;
+    }
+    sum
 }
 
-pub enum PairAnswer {
-    Value(Pair),
-    Refused(Refusal),
-}
-
-// The sums derived by vi, twice by vi, by both and twice by vj, of one item.
-pub struct Four {
-    pub i: f64,
-    pub ii: f64,
-    pub ij: f64,
-    pub jj: f64,
-}
-
-pub enum FourAnswer {
-    Value(Four),
-    Refused(Refusal),
+// The sum of (n * vi^I) * vj^J by two tables of powers, to the end of the shortest column. It goes in parts so short that a compiler writes
+// them out where the columns are constants, and then works no powers but those that the rows name, and tests nothing.
+pub fn plain_sum(wi: &[f64; 129], wj: &[f64; 129], is: &[i32], js: &[i32], ns: &[f64]) -> f64
+    ensures { λ x. ⌜ Summed Order.Zero Order.Zero (now (wi .entry)) (now (wj .entry)) (rowsOf (now (is .entry)) (now (js .entry)) (now (ns .entry))) x ⌝ }
+{
+    let n = least(least(is.len(), js.len()), ns.len());
+    let mut sum = 0.0;
+    let mut start = 0;
+    while start < n {
+        sum = plain_part(sum, start, least(n, start + 11), wi, wj, is, js, ns);
+        start += 11;
+    }
+    sum
 }

@@ -1,4 +1,4 @@
--- The backward equations: S03rev, equations 2 to 9, and S04rev, in the Rust's order of operations (r3/region3_Tv_phps.rs, r3/region3_p_hs.rs).
+-- To believe: the backward equations: S03rev, equations 2 to 9, and S04rev, in the Rust's order of operations (r3/region3_Tv_phps.rs, r3/region3_p_hs.rs).
 -- Assumes nothing: these are definitions.
 use Rattle.common.specs.Formula.{_⊕_, _⊖_, _⊗_, _⊘_}
 use mathlib.Core.List.{List}

@@ -1,44 +1,13 @@
 // Holds the eleven table sums, on columns that a caller lends, to stored answers: for each sum how many rows there are and how many
 // are answered otherwise. tools/sums_rows.py says how the tables and the rows lie in their files.
-mod outcome;
-mod table;
-
 use buffer::byte_at;
-use buffer::float_at;
-use outcome::stored;
-use table::SUMS;
-use table::work;
+use sum_rows::agrees;
 use tally::Tally;
 use tally::judged;
 use tally::load;
 use tally::say;
 use tally::say_counts;
 use tally::say_tally;
-
-// A table's bytes.
-const TABLE: usize = 1040;
-
-// Whether a row has the answer of its sum on its table. A row of a sum or a table that does not exist has not.
-fn agrees(row: [u8; 56], tables: &[u8]) -> bool {
-    let sum = byte_at(&row, 1);
-    if sum >= SUMS {
-        return false;
-    }
-    let at = TABLE * (byte_at(&row, 0) as usize);
-    let next = at + TABLE;
-    if next > tables.len() {
-        return false;
-    }
-    stored(
-        row,
-        work(
-            sum,
-            float_at(&row, 8),
-            float_at(&row, 16),
-            &tables[at..next],
-        ),
-    )
-}
 
 // Nothing says that a file ends, so the rows are counted down from a number that no run uses up.
 fn judge_file(fd: i32, tables: &[u8], rows: &mut [u64], differ: &mut [u64]) -> Tally {

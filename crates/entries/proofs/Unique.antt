@@ -13,10 +13,8 @@ use Rattle.entries.proofs.numbers.entry_of.Kinds as entry-of-kinds
 use Rattle.entries.proofs.numbers.entry_of.Reads as entry-of
 use Rattle.entries.proofs.call.answer.Kinds as answer-kinds
 use Rattle.entries.proofs.call.answer.Reads as answer
-use Rattle.entries.proofs.shape.number_at.Kinds as number-at-kinds
-use Rattle.entries.proofs.shape.number_at.Reads as number-at
-use Rattle.entries.proofs.stored.agrees.Kinds as agrees-kinds
-use Rattle.entries.proofs.stored.agrees.Reads as agrees
+use Rattle.entries.proofs.page.agrees.Kinds as agrees-kinds
+use Rattle.entries.proofs.page.agrees.Reads as agrees
 use Rattle.entries.proofs.page.answer_rows.Kinds as answer-rows-kinds
 use Rattle.entries.proofs.page.answer_rows.Reads as answer-rows
 
@@ -25,9 +23,6 @@ entry-of-one κs a e x y p q = p ∙ sym q
 
 pub answer-one : One 0 answer-kinds.ps answer-kinds.r answer.Post
 answer-one κs a e x y p q = p ∙ sym q
-
-pub number-at-one : One 0 number-at-kinds.ps number-at-kinds.r number-at.Post
-number-at-one κs a e x y p q = p ∙ sym q
 
 pub agrees-one : One 1 agrees-kinds.ps agrees-kinds.r agrees.Post
 agrees-one κs a e x y p q = p ∙ sym q

@@ -22,10 +22,11 @@ use Rattle.td_record.specs.Steps.{recordRule}
 use Rattle.record.specs.Record.{report}
 use Rattle.region3.specs.Entries.{pTRule, phRule, psRule, hsRule}
 use Rattle.column_run.specs.Columns.{rowRule}
-use Rattle.entries.specs.declared.Reply.{Reply}
+use Rattle.reply.specs.declared.Reply.{Reply}
+use Rattle.reply.specs.Shape.{numberReply, letterReply, recordReply}
 use Rattle.entries.specs.declared.Entry.{Entry}
 use Rattle.entries.specs.declared.Entry.the-variants as entry
-use Rattle.entries.specs.Shape.{numberReply, letterReply, recordReply, rowReply, unknown, placeOf, named}
+use Rattle.entries.specs.Named.{rowReply, unknown, placeOf, named}
 
 -- a boundary by its number
 abbrev pub boundaries : List Boundary

@@ -1,4 +1,4 @@
-pub mod Shape
+pub mod Named
 pub mod Numbers
 pub mod Entries
 pub mod Rows

@@ -1,12 +1,7 @@
 // What each entry answers: a call of the library, and its answer's shape. Before it the three whose whole number names something.
 use crate::Entry;
-use crate::Reply;
 use crate::shape::UNKNOWN;
-use crate::shape::letter_reply;
-use crate::shape::number_reply;
 use crate::shape::place;
-use crate::shape::record_reply;
-use crate::shape::refused;
 use crate::shape::row_reply;
 use boundary::Boundary;
 use boundary::T_atRegionBoundary;
@@ -17,6 +12,11 @@ use common::Kelvin;
 use common::KgPerM3;
 use common::MPa;
 use record::blank;
+use reply::Reply;
+use reply::letter_reply;
+use reply::number_reply;
+use reply::record_reply;
+use reply::refused;
 use subregion::of_byte;
 use volume::Phase;
 use volume::pT2v_3subreg;

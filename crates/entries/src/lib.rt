@@ -1,16 +1,14 @@
 // The entry points by number, for the programs that run them over rows of bytes: which number names which entry (`numbers`), what each
-// answers (`answer`), the shapes of an answer (`shape`), rows of bytes answered (`page`), stored answers compared (`stored`).
+// answers (`answer`), what a reply needs beside its shapes (`shape`), rows of bytes answered and stored records compared (`page`).
 mod call;
 mod numbers;
 mod page;
 mod shape;
-mod stored;
 
 pub use call::answer;
 pub use numbers::entry_of;
+pub use page::agrees;
 pub use page::answer_rows;
-pub use shape::number_at;
-pub use stored::agrees;
 
 // The entry points, in the order of their numbers. Unnamed stands for a number that names none.
 pub enum Entry {
@@ -38,11 +36,4 @@ pub enum Entry {
     HsRecord,
     Property,
     ColumnRow,
-}
-
-// What a call answers: the refusal's number or 0, the letter in ASCII or 0, and up to ten numbers.
-pub struct Reply {
-    pub refusal: u8,
-    pub letter: u8,
-    pub numbers: [f64; 10],
 }

@@ -1,19 +1,16 @@
-// From rows of 24 bytes to replies of 88.
-use crate::Reply;
+// From rows of 24 bytes to replies of 88, and stored records of both.
 use crate::answer;
 use crate::entry_of;
 use buffer::byte_at;
 use buffer::float_at;
 use buffer::int_at;
-use buffer::put_float;
-use buffer::put_word;
-use buffer::wide;
 use common::least;
+use reply::Reply;
+use reply::put_reply;
 ghost use mathlib.Core.Path.{_≡_};
-ghost use Prim.Native.Nat.{_+_, _≤_, _<_, _^_, min};
-ghost use lib.ListN.{length};
+ghost use Prim.Native.Nat.{_+_, _<_, _^_};
 ghost use lib.Seq.{sets};
-ghost use Rattle.entries.specs.Rows.{replyAt, replyBytes, rowsIn, repliesTo};
+ghost use Rattle.entries.specs.Rows.{replyAt, rowsIn, repliesTo, recordAgrees};
 
 pub fn reply_at(s: &[u8], at: usize) -> Reply
     requires { ⌜ at + 24 < 2 ^ 64 ⌝ }
@@ -25,19 +22,6 @@ pub fn reply_at(s: &[u8], at: usize) -> Reply
         float_at(s, at + 8),
         float_at(s, at + 16),
     )
-}
-
-pub fn put_reply(out: &mut [u8], at: usize, r: Reply)
-    requires { ⌜ at + 88 ≤ length (now out) ⌝ }
-    ensures { λ _. ⌜ now (out .exit) ≡ sets (now (out .entry)) at (replyBytes r) ⌝ }
-{
-    put_word(out, at, wide(r.refusal) + 256 * wide(r.letter));
-    let numbers = r.numbers;
-    let mut k = 0;
-    while k < 10 {
-        put_float(out, at + 8 + 8 * k, numbers[k]);
-        k += 1;
-    }
 }
 
 // Answers the whole rows of a page, as far as their replies have room, and says how many.
@@ -52,4 +36,11 @@ pub fn answer_rows(rows: &[u8], replies: &mut [u8]) -> usize
         i += 1;
     }
     n
+}
+
+// Whether a stored record of 112 bytes, a row of 24 and the 88 that answer it, has the reply to its row.
+pub fn agrees(stored: &[u8]) -> bool
+    ensures { λ r. ⌜ r ≡ recordAgrees (now (stored .entry)) ⌝ }
+{
+    reply::agrees(stored, reply_at(stored, 0))
 }

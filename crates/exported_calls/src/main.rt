@@ -4,9 +4,7 @@
 use buffer::byte_at;
 use buffer::float_at;
 use buffer::int_at;
-use buffer::put_float;
-use buffer::put_word;
-use buffer::wide;
+use reply::Reply;
 use tally::Tally;
 use tally::judged;
 use tally::say;
@@ -18,15 +16,8 @@ const FOUND: f64 = -90.5;
 
 const FOUND_BYTE: u8 = 90;
 
-// What a call returned, and what it wrote.
-struct Called {
-    refusal: u8,
-    letter: u8,
-    numbers: [f64; 10],
-}
-
 // The calls that write one number.
-fn call_number(entry: u8, n: i32, a: f64, b: f64) -> Called {
+fn call_number(entry: u8, n: i32, a: f64, b: f64) -> Reply {
     let mut x = FOUND;
     let refusal = match entry {
         1 => region3_c::r3_power(a, n, &mut x),
@@ -37,18 +28,18 @@ fn call_number(entry: u8, n: i32, a: f64, b: f64) -> Called {
         6 => region3_c::r3_t_saturation(a, &mut x),
         _ => region3_c::r3_property(n, a, b, &mut x),
     };
-    Called {
+    Reply {
         refusal,
         letter: 0,
         numbers: [x, 0.0, 0.0, 0.0, 0.0, 0.0, 0.0, 0.0, 0.0, 0.0],
     }
 }
 
-fn call_letter(a: f64, b: f64) -> Called {
+fn call_letter(a: f64, b: f64) -> Reply {
     let mut letter = FOUND_BYTE;
     let refusal = region3_c::r3_letter(a, b, &mut letter);
     let numbers = [0.0; 10];
-    Called {
+    Reply {
         refusal,
         letter,
         numbers,
@@ -56,7 +47,7 @@ fn call_letter(a: f64, b: f64) -> Called {
 }
 
 // The calls that write a record.
-fn call_record(entry: u8, a: f64, b: f64) -> Called {
+fn call_record(entry: u8, a: f64, b: f64) -> Reply {
     let mut numbers = [FOUND; 10];
     let refusal = match entry {
         20 => region3_c::r3_td(a, b, &mut numbers),
@@ -65,7 +56,7 @@ fn call_record(entry: u8, a: f64, b: f64) -> Called {
         23 => region3_c::r3_ps(a, b, &mut numbers),
         _ => region3_c::r3_hs(a, b, &mut numbers),
     };
-    Called {
+    Reply {
         refusal,
         letter: 0,
         numbers,
@@ -73,21 +64,21 @@ fn call_record(entry: u8, a: f64, b: f64) -> Called {
 }
 
 // One row of the column run. A call that is refused as a whole has its own number, which no row has.
-fn call_column(a: f64, b: f64) -> Called {
+fn call_column(a: f64, b: f64) -> Reply {
     let ps = [a; 1];
     let ts = [b; 1];
     let mut letters = [FOUND_BYTE; 1];
     let mut densities = [FOUND; 1];
     let mut refusals = [FOUND_BYTE; 1];
     let verdict = region3_c::r3_columns(&ps, &ts, &mut letters, &mut densities, &mut refusals);
-    Called {
+    Reply {
         refusal: if verdict == 0 { refusals[0] } else { verdict },
         letter: letters[0],
         numbers: [densities[0], 0.0, 0.0, 0.0, 0.0, 0.0, 0.0, 0.0, 0.0, 0.0],
     }
 }
 
-fn call(entry: u8, n: i32, a: f64, b: f64) -> Called {
+fn call(entry: u8, n: i32, a: f64, b: f64) -> Reply {
     match entry {
         8 => call_letter(a, b),
         20 | 21 | 22 | 23 | 24 => call_record(entry, a, b),
@@ -96,36 +87,14 @@ fn call(entry: u8, n: i32, a: f64, b: f64) -> Called {
     }
 }
 
-fn equal(a: &[u8; 112], b: &[u8; 112]) -> bool {
-    check::same(a, b)
-}
-
-// Whether a record stores what a call came to, bit by bit: with the answer put in, it is the record that it was.
-fn stored(row: [u8; 112], c: Called) -> bool {
-    let numbers = c.numbers;
-    let mut answered = row;
-    put_word(&mut answered, 24, wide(c.refusal) + 256 * wide(c.letter));
-    put_float(&mut answered, 32, numbers[0]);
-    put_float(&mut answered, 40, numbers[1]);
-    put_float(&mut answered, 48, numbers[2]);
-    put_float(&mut answered, 56, numbers[3]);
-    put_float(&mut answered, 64, numbers[4]);
-    put_float(&mut answered, 72, numbers[5]);
-    put_float(&mut answered, 80, numbers[6]);
-    put_float(&mut answered, 88, numbers[7]);
-    put_float(&mut answered, 96, numbers[8]);
-    put_float(&mut answered, 104, numbers[9]);
-    equal(&answered, &row)
-}
-
-fn agrees(row: [u8; 112]) -> bool {
-    stored(
+fn agrees(row: &[u8]) -> bool {
+    reply::agrees(
         row,
         call(
-            byte_at(&row, 0),
-            int_at(&row, 4),
-            float_at(&row, 8),
-            float_at(&row, 16),
+            byte_at(row, 0),
+            int_at(row, 4),
+            float_at(row, 8),
+            float_at(row, 16),
         ),
     )
 }
@@ -145,7 +114,7 @@ fn judge_file(fd: i32, rows: &mut [u64], differ: &mut [u64]) -> Tally {
             t.left = have;
             return t;
         }
-        t = judged(t, byte_at(&row, 0), agrees(row), rows, differ);
+        t = judged(t, byte_at(&row, 0), agrees(&row), rows, differ);
         most -= 1;
     }
     t
@@ -171,8 +140,8 @@ fn say_unequal() {
     let mut refusals = [FOUND_BYTE; 1];
     let verdict = region3_c::r3_columns(&ps, &ts, &mut letters, &mut densities, &mut refusals);
     say_number(b"columns of unequal length: refusal ", verdict as u64);
-    say_number(b" letter ", wide(letters[0]));
-    say_number(b" row's refusal ", wide(refusals[0]));
+    say_number(b" letter ", buffer::wide(letters[0]));
+    say_number(b" row's refusal ", buffer::wide(refusals[0]));
     say(b"\n");
 }
 

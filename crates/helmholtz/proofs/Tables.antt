@@ -1,8 +1,9 @@
--- A sum over table 30 at two numbers is the sum of what δ and τ come to: first where one of them is not finite, then for each kind of sum; and
--- table 30 goes as far as the code says.
+-- A sum over table 30 at two numbers is the sum of what δ and τ come to. In order: where one of them is not finite; each kind of sum; how far table 30
+-- goes; and what the code gives, which fills the powers itself.
 use mathlib.Core.Path.{_≡_, refl, sym, ap}
 use mathlib.Core.List.{List}
 use lib.Dec.{T}
+use lib.ListN.{length}
 use lib.Ieee.{Float, nan, inf, fin}
 use Rattle.common.specs.Outcome.{Outcome, refused, check, then, orNan}
 use Rattle.common.proofs.Laws.{Lost, never, next}
@@ -10,9 +11,12 @@ use Rattle.common.specs.Sum.{every}
 use Rattle.algo.specs.declared.Order.{Order}
 use Rattle.algo.specs.declared.Order.the-variants.{Zero, One, Two}
 use Rattle.algo.specs.declared.Share.{Share}
-use Rattle.algo.specs.Table.{Row, derived, sumRule}
+use Rattle.algo.specs.Table.{Row, differentiated, sumRule}
 use Rattle.algo.specs.Joint.{shareRule}
-use Rattle.algo.specs.Reach.{covered}
+use Rattle.powers.specs.Powers.{Powers}
+use Rattle.powers.proofs.Looked.{powers-hold}
+use Rattle.algo.specs.Raw.{Summed, SharesSummed, rawDivided, gate, covers}
+use Rattle.algo.proofs.Sums.{slope-ends, share-ends}
 use Rattle.algo.proofs.Settled.{slope-settled, share-settled}
 use Rattle.common.specs.Formula.{Raw}
 use Rattle.helmholtz.specs.Number.{Number}
@@ -42,23 +46,23 @@ settled f x y r lx ly h e =
     (next x _ _ (λ _. next y _ _ (λ _. sym h) (λ l. ap (λ (o : Outcome Float). check (orNan o)) (ly l)))
     (λ l. ap (λ (o : Outcome Float). check (orNan o)) (lx l)))
 
-pub slope-gives : (a b : Order) (x y r : Float) → r ≡ orNan (sumRule (derived a b) x y table30) → Number (slope a b (check x) (check y)) r
+slope-gives : (a b : Order) (x y r : Float) → r ≡ orNan (sumRule (differentiated a b) x y table30) → Number (slope a b (check x) (check y)) r
 unfolding slope
 slope-gives a b x y r e = settled-number (slope-settled a b x y table30) e record {
-  is = settled (λ u v. sumRule (derived a b) u v table30) x y r (first-lost (derived a b) table30 x y) (second-lost (derived a b) table30 x y) (slope-settled a b x y table30) e;
+  is = settled (λ u v. sumRule (differentiated a b) u v table30) x y r (first-lost (differentiated a b) table30 x y) (second-lost (differentiated a b) table30 x y) (slope-settled a b x y table30) e;
 }
 
-pub share-gives : (a : Order) (s : Share) (x y r : Float) → r ≡ orNan (shareRule a s x y table30) → Number (share a s (check x) (check y)) r
+share-gives : (s : Share) (x y r : Float) → r ≡ orNan (shareRule Zero s x y table30) → Number (share s (check x) (check y)) r
 unfolding share shareRule
-share-gives a s x y r e = settled-number (share-settled a s x y table30) e record {
-  is = settled (λ u v. shareRule a s u v table30) x y r
+share-gives s x y r e = settled-number (share-settled Zero s x y table30) e record {
+  is = settled (λ u v. shareRule Zero s u v table30) x y r
       (λ l. rw (first-lost _ table30 x y l))
       (λ l. rw (second-lost _ table30 x y l))
-      (share-settled a s x y table30) e;
+      (share-settled Zero s x y table30) e;
 }
 
--- table 30 reaches as far as the code says, however often its terms are derived
-pub reached : (a b : Order) → T (covered a b (record { «up_i» = 11; «down_i» = 2; «up_j» = 26; «down_j» = 2 }) table30)
+-- table 30 goes no further than the powers that the code fills, however often its terms are differentiated
+reached : (a b : Order) → T (every (covers a b 11 2 26 2) table30)
 unfolding table30 every
 reached Zero Zero = tt
 reached Zero One = tt
@@ -69,3 +73,17 @@ reached One Two = tt
 reached Two Zero = tt
 reached Two One = tt
 reached Two Two = tt
+
+plain-reached : T (every (covers Zero Zero 11 0 26 0) table30)
+unfolding table30 every
+plain-reached = tt
+
+-- what a sum over table 30 gives by the powers of x and y
+module _ {x y : Float} {wi₀ wi wj₀ wj : List Float} (li : length wi₀ ≡ 129) (lj : length wj₀ ≡ 129) where
+  pub slope-of : Powers x wi₀ wi 11 2 → Powers y wj₀ wj 26 2 → (a b : Order) {s r : Float} → Summed a b wi wj table30 s → r ≡ orNan (gate x y s) → Number (slope a b (check x) (check y)) r
+  slope-of p q a b {r = r} h g =
+      slope-gives a b x y r (slope-ends x y wi wj 11 2 26 2 (powers-hold x wi₀ wi 11 2 li p) (powers-hold y wj₀ wj 26 2 lj q) (reached a b) h g)
+
+  pub share-of : Powers x wi₀ wi 11 0 → Powers y wj₀ wj 26 0 → (t : Share) {s r : Float} → SharesSummed Zero t wi wj table30 s → r ≡ orNan (gate x y (rawDivided t x y s)) → Number (share t (check x) (check y)) r
+  share-of p q t {r = r} h g =
+      share-gives t x y r (share-ends x y wi wj 11 0 26 0 (powers-hold x wi₀ wi 11 0 li p) (powers-hold y wj₀ wj 26 0 lj q) plain-reached h g)

@@ -1,4 +1,4 @@
--- The dimensionless Helmholtz free energy φ of region 3 and its derivatives: R7-97(2012), equation 28 and table 32, in the order of operations of
+-- To believe: the dimensionless Helmholtz free energy φ of region 3 and its derivatives: R7-97(2012), equation 28 and table 32, in the order of operations of
 -- r3/region3_hfe.rs. Every refusal here is 5, so it does not matter which operand is worked first. Assumes nothing: these are definitions.
 use Rattle.common.specs.Formula.{_⊕_, _⊗_, _⊘_, minusOf}
 use lib.Ieee.{Float}
@@ -8,7 +8,7 @@ use Rattle.algo.specs.declared.Order.{Order}
 use Rattle.algo.specs.declared.Order.the-variants.{Zero, One, Two}
 use Rattle.algo.specs.declared.Share.{Share}
 use Rattle.algo.specs.declared.Share.the-variants.{Whole, I, J, Ii, Ij, Jj}
-use Rattle.algo.specs.Table.{derived, sumRule}
+use Rattle.algo.specs.Table.{differentiated, sumRule}
 use Rattle.algo.specs.Joint.{shareRule}
 use Rattle.helmholtz.specs.Table30.{n1, table30}
 
@@ -16,10 +16,10 @@ use Rattle.helmholtz.specs.Table30.{n1, table30}
 abbrev pub Reduced : Type 0
 Reduced = Outcome Float → Outcome Float → Outcome Float
 
--- ---- table 30, each sum by itself: the term n δ^I τ^J derived so often by δ and by τ
+-- ---- table 30, each sum by itself: the term n δ^I τ^J differentiated so often by δ and by τ
 
 unfoldable pub slope : Order → Order → Reduced
-slope a b δ τ = then δ (λ x. then τ (λ y. sumRule (derived a b) x y table30))
+slope a b δ τ = then δ (λ x. then τ (λ y. sumRule (differentiated a b) x y table30))
 
 -- equation 28
 unfoldable pub phi : Reduced
@@ -40,32 +40,32 @@ phi-tautau = slope Zero Two
 abbrev pub phi-deltatau : Reduced
 phi-deltatau = slope One One
 
--- ---- the joint sums, which share the term n δ^I τ^J, derived so often by δ, multiply it by I and J, and divide by δ and τ once
+-- ---- the joint sums, which share the term n δ^I τ^J, multiply it by I and J, and divide by δ and τ once
 
-unfoldable pub share : Order → Share → Reduced
-share a s δ τ = then δ (λ x. then τ (λ y. shareRule a s x y table30))
+unfoldable pub share : Share → Reduced
+share s δ τ = then δ (λ x. then τ (λ y. shareRule Zero s x y table30))
 
 -- `polys_0_j_powi_reg3`
 unfoldable pub joint-phi : Reduced
-joint-phi δ τ = share Zero Whole δ τ ⊕ value n1 ⊗ logarithmOf δ
+joint-phi δ τ = share Whole δ τ ⊕ value n1 ⊗ logarithmOf δ
 
 -- `polys_0_j_powi_reg3` and `polys_i_j_powi_reg3`
 abbrev pub joint-tau : Reduced
-joint-tau = share Zero J
+joint-tau = share J
 
 -- `polys_i_j_powi_reg3`
 unfoldable pub joint-delta : Reduced
-joint-delta δ τ = share Zero I δ τ ⊕ value n1 ⊘ δ
+joint-delta δ τ = share I δ τ ⊕ value n1 ⊘ δ
 
 -- `polys_i_ii_ij_jj_powi_reg3`
 unfoldable pub four-delta : Reduced
-four-delta δ τ = value n1 ⊘ δ ⊕ share Zero I δ τ
+four-delta δ τ = value n1 ⊘ δ ⊕ share I δ τ
 
 unfoldable pub four-deltadelta : Reduced
-four-deltadelta δ τ = minusOf (value n1) ⊘ δ ⊘ δ ⊕ share Zero Ii δ τ
+four-deltadelta δ τ = minusOf (value n1) ⊘ δ ⊘ δ ⊕ share Ii δ τ
 
 abbrev pub four-deltatau : Reduced
-four-deltatau = share Zero Ij
+four-deltatau = share Ij
 
 abbrev pub four-tautau : Reduced
-four-tautau = share Zero Jj
+four-tautau = share Jj

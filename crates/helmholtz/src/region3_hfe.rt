@@ -1,17 +1,18 @@
 // φ and its derivatives: R7-97(2012), equation 28 and table 32, by the sums over table 30. Here, in order: table 30, its three kinds of sums,
 // φ and each derivative by itself, and those that the properties need together by one joint sum. Each gives its number, or a NaN where any step
 // is not finite; each divisor is tested before it could hide such a step.
-use algo::Four;
 use algo::Order;
-use algo::Pair;
-use algo::Reach;
 use algo::Share;
-use algo::unchecked_four;
-use algo::unchecked_pair;
-use algo::unchecked_sum;
+use algo::gated;
 use common::is_finite;
 use common::over;
+use joint::Pair;
+use joint::finished;
+use joint::four_sums;
+use joint::joint_sums;
+use powers::fill_powers;
 use rules::raw_logarithm;
+use slopes::slope_sum;
 ghost use mathlib.Core.Path.{_≡_};
 ghost use Rattle.common.specs.Outcome.{check, orNan};
 ghost use Rattle.helmholtz.specs.Number.{Number};
@@ -146,34 +147,48 @@ const NS: [f64; 39] = [
     -0.44923899061815e-4,
 ];
 
-// How far the exponents go: I to 11 and J to 26, and each 2 down where it is derived twice.
-const REACH: Reach = Reach {
-    up_i: 11,
-    down_i: 2,
-    up_j: 26,
-    down_j: 2,
-};
-
-// A sum by itself, its terms derived so often by δ and by τ.
+// A sum by itself, its terms differentiated so often by δ and by τ. The exponents go from 0 to 11 and to 26, and 2 down where a term is differentiated twice.
 fn sum(a: Order, b: Order, delta: f64, tau: f64) -> f64
     ensures { λ r. ⌜ Number (slope a b (check delta) (check tau)) r ⌝ }
 {
-    unchecked_sum(a, b, delta, tau, REACH, &IS, &JS, &NS)
+    let mut wi = [0.0; 129];
+    let mut wj = [0.0; 129];
+    fill_powers(delta, 11, 2, &mut wi);
+    fill_powers(tau, 26, 2, &mut wj);
+    gated(delta, tau, slope_sum(a, b, &wi, &wj, &IS, &JS, &NS))
 }
 
-// Two sums that share their terms, these derived so often by δ.
-fn pair(a: Order, s: Share, t: Share, delta: f64, tau: f64) -> Pair
-    ensures { λ r. ⌜ Number (share a s (check delta) (check tau)) (r .first) × Number (share a t (check delta) (check tau)) (r .second) ⌝ }
+// Two sums that share their terms.
+fn pair(s: Share, t: Share, delta: f64, tau: f64) -> Pair
+    ensures { λ r. ⌜ Number (share s (check delta) (check tau)) (r .first) × Number (share t (check delta) (check tau)) (r .second) ⌝ }
 {
-    unchecked_pair(a, s, t, delta, tau, REACH, &IS, &JS, &NS)
+    let mut wi = [0.0; 129];
+    let mut wj = [0.0; 129];
+    fill_powers(delta, 11, 0, &mut wi);
+    fill_powers(tau, 26, 0, &mut wj);
+    let p = joint_sums(Order::Zero, s, t, &wi, &wj, &IS, &JS, &NS);
+    Pair {
+        first: finished(s, delta, tau, p.first),
+        second: finished(t, delta, tau, p.second),
+    }
 }
 
 // Four sums that share their terms.
-fn four(delta: f64, tau: f64) -> Four
-    ensures { λ r. ⌜ Number (share Order.Zero Share.I (check delta) (check tau)) (r .i) × Number (share Order.Zero Share.Ii (check delta) (check tau)) (r .ii)
-        × Number (share Order.Zero Share.Ij (check delta) (check tau)) (r .ij) × Number (share Order.Zero Share.Jj (check delta) (check tau)) (r .jj) ⌝ }
+fn four(delta: f64, tau: f64) -> Slopes
+    ensures { λ r. ⌜ Number (share Share.I (check delta) (check tau)) (r .delta) × Number (share Share.Ii (check delta) (check tau)) (r .deltadelta)
+        × Number (share Share.Ij (check delta) (check tau)) (r .deltatau) × Number (share Share.Jj (check delta) (check tau)) (r .tautau) ⌝ }
 {
-    unchecked_four(delta, tau, REACH, &IS, &JS, &NS)
+    let mut wi = [0.0; 129];
+    let mut wj = [0.0; 129];
+    fill_powers(delta, 11, 0, &mut wi);
+    fill_powers(tau, 26, 0, &mut wj);
+    let p = four_sums(&wi, &wj, &IS, &JS, &NS);
+    Slopes {
+        delta: finished(Share::I, delta, tau, p.i),
+        deltadelta: finished(Share::Ii, delta, tau, p.ii),
+        deltatau: finished(Share::Ij, delta, tau, p.ij),
+        tautau: finished(Share::Jj, delta, tau, p.jj),
+    }
 }
 
 // x, or a NaN where it is not finite.
@@ -231,7 +246,7 @@ pub struct PhiTau {
 pub fn polys_0_j_powi_reg3(delta: f64, tau: f64) -> PhiTau
     ensures { λ r. ⌜ Number (joint-phi (check delta) (check tau)) (r .phi) × Number (joint-tau (check delta) (check tau)) (r .tau) ⌝ }
 {
-    let joint = pair(Order::Zero, Share::Whole, Share::J, delta, tau);
+    let joint = pair(Share::Whole, Share::J, delta, tau);
     PhiTau {
         phi: finite_or_nan(joint.first + N1 * raw_logarithm(delta)),
         tau: joint.second,
@@ -247,7 +262,7 @@ pub struct DeltaTau {
 pub fn polys_i_j_powi_reg3(delta: f64, tau: f64) -> DeltaTau
     ensures { λ r. ⌜ Number (joint-delta (check delta) (check tau)) (r .delta) × Number (joint-tau (check delta) (check tau)) (r .tau) ⌝ }
 {
-    let joint = pair(Order::Zero, Share::I, Share::J, delta, tau);
+    let joint = pair(Share::I, Share::J, delta, tau);
     DeltaTau {
         delta: finite_or_nan(joint.first + over(N1, delta)),
         tau: joint.second,
@@ -268,9 +283,9 @@ pub fn polys_i_ii_ij_jj_powi_reg3(delta: f64, tau: f64) -> Slopes
 {
     let joint = four(delta, tau);
     Slopes {
-        delta: finite_or_nan(over(N1, delta) + joint.i),
-        deltadelta: finite_or_nan(over(over(-N1, delta), delta) + joint.ii),
-        deltatau: joint.ij,
-        tautau: joint.jj,
+        delta: finite_or_nan(over(N1, delta) + joint.delta),
+        deltadelta: finite_or_nan(over(over(-N1, delta), delta) + joint.deltadelta),
+        deltatau: joint.deltatau,
+        tautau: joint.tautau,
     }
 }

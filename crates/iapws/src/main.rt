@@ -21,7 +21,7 @@ fn holds(point: &[u8]) -> bool {
         return false;
     }
     if common::ranged(
-        entries::number_at(numbers, byte_at(point, 24)),
+        reply::number_at(numbers, byte_at(point, 24)),
         float_at(point, 32),
         float_at(point, 40),
     ) {

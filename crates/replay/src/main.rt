@@ -1,7 +1,7 @@
 // Holds the port to stored answers: for each list of records, a row of 24 bytes and its answer of 88, how many rows of each entry
 // there are, how many are answered otherwise, and which; and the column run to its refusal of columns of unequal length. It needs no
 // Rust at hand.
-mod lending;
+mod lengths;
 
 use tally::Tally;
 use tally::judged;
@@ -86,5 +86,5 @@ fn replay(name: &[u8]) {
 fn main() {
     replay(b"rules.bin");
     replay(b"rows.bin");
-    lending::try_lengths();
+    lengths::try_lengths();
 }

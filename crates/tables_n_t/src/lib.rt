@@ -1,7 +1,7 @@
 // Tables of S05rev by column, and the sum of each.
-use algo::fill_powers;
 use algo::gated;
 use algo::plain_sum;
+use powers::fill_powers;
 ghost use mathlib.Core.Path.{_≡_};
 ghost use Rattle.common.specs.Outcome.{orNan};
 ghost use Rattle.algo.specs.Table.{sumRule, term};

@@ -1,4 +1,4 @@
--- The volume equations of S05rev: table 4 and equations 4 and 5, in the Rust's order of operations (r3/region3_v_subregion_pT.rs).
+-- To believe: the volume equations of S05rev: table 4 and equations 4 and 5, in the Rust's order of operations (r3/region3_v_subregion_pT.rs).
 -- Assumes nothing: these are definitions.
 use Rattle.common.specs.Formula.{_⊖_, _⊗_, _⊘_}
 use mathlib.Core.List.{List}

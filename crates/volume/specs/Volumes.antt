@@ -1,4 +1,4 @@
--- What a call with (p,T) finds: a volume, its density, and where the volume comes from (r3/region3_v_pT.rs). Assumes nothing: these are definitions.
+-- To believe: what a call with (p,T) finds: a volume, its density, and where the volume comes from (r3/region3_v_pT.rs). Assumes nothing: these are definitions.
 use Rattle.common.specs.Formula.{_⊖_, _⊘_}
 use mathlib.Core.Bool.{Bool, false, cond}
 use lib.Ieee.{Float, lt, neg}

@@ -3,7 +3,8 @@ use mathlib.Core.Path.{ap, _∙_}
 use mir.Syntax.{w32}
 use mir.ValLaws.{toZ-ofZ}
 use borrow.Author.Needs.{needs}
-use Rattle.entries.specs.Shape.{numberReply, letterReply, recordReply, rowReply}
+use Rattle.reply.specs.Shape.{numberReply, letterReply, recordReply}
+use Rattle.entries.specs.Named.{rowReply}
 use Rattle.entries.specs.Entries.{replyRule}
 use Rattle.entries.proofs.call.answer.Statement.{statement}
 use Rattle.entries.proofs.call.answer.Tie as tie

@@ -5,7 +5,8 @@ use mir.ValLaws.{toZ-ofZ}
 use borrow.Author.Tests.{lt-ltb, le-ltb}
 use Rattle.subregion.specs.declared.Letter.{Letter}
 use Rattle.volume.specs.Volumes.{pT2v-3subregRule}
-use Rattle.entries.specs.Shape.{numberReply, placeOf}
+use Rattle.reply.specs.Shape.{numberReply}
+use Rattle.entries.specs.Named.{placeOf}
 use Rattle.entries.specs.Entries.{letterVolumeReply}
 use borrow.Author.Needs.{needs}
 use Rattle.entries.proofs.call.by_letter.Statement.{statement}

@@ -8,10 +8,11 @@ use lib.ListN.{length}
 use lib.Seq.{sets}
 use borrow.Author.Needs.{needs}
 use Rattle.buffer.specs.Bytes.{joined}
-use Rattle.buffer.proofs.Laws.{pieces-more}
-use Rattle.entries.specs.Rows.{replyAt, replyBytes, repliesTo}
-use Rattle.entries.specs.declared.Reply.{Reply}
-use Rattle.entries.proofs.Laws.{reply-length}
+use Rattle.buffer.proofs.Laws.{placed-all, pieces-more}
+use Rattle.reply.specs.Bytes.{replyBytes}
+use Rattle.entries.specs.Rows.{replyAt, repliesTo}
+use Rattle.reply.specs.declared.Reply.{Reply}
+use Rattle.reply.proofs.Laws.{reply-length}
 use Rattle.entries.proofs.page.answer_rows.Statement.{statement}
 use Rattle.entries.proofs.page.answer_rows.Tie as tie
 
@@ -36,6 +37,7 @@ loop-again c =
       omega arith,
       p .put-reply .kept .0 ∙ l .loop .inv .1,
       p .put-reply .ensures
+          ∙ placed-all (l .loop .replies) (88 * i) (replyBytes (p .before .reply-at .result)) (rw (reply-length (p .before .reply-at .result)) (omega (arith, l .loop .inv .1)))
           ∙ ap (λ (r : Reply). sets (l .loop .replies) (88 * i) (replyBytes r)) (p .before .reply-at .ensures)
           ∙ pieces-more f 88 (λ k. reply-length (replyAt (a .rows .now) (24 * k))) (a .replies .now) (l .loop .replies) 0 i (88 * i) (l .loop .inv .2) (sym (zero-add (88 * i))),
     )

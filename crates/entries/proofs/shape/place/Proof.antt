@@ -11,7 +11,7 @@ use mir.Val.{Fits, SFits}
 use mir.ValLaws.{toZ-ofZ}
 use borrow.Author.Tests.{ltb-true}
 use Rattle.common.proofs.Laws.{never}
-use Rattle.entries.specs.Shape.{placeOf}
+use Rattle.entries.specs.Named.{placeOf}
 use Rattle.entries.proofs.shape.place.Statement.{statement}
 use Rattle.entries.proofs.shape.place.Tie as tie
 

@@ -3,35 +3,40 @@ use mathlib.Core.Path.{refl}
 use lib.Ieee.{ofBits}
 use borrow.Author.Needs.{needs}
 use Rattle.common.specs.Decimal.{scaled, plus, minus}
-use Rattle.algo.specs.declared.Order.the-variants.{Zero}
-use Rattle.algo.specs.declared.Share.the-variants.{I, Ii, Ij, Jj}
 use Rattle.algo.specs.Table.{rowsOf}
 use Rattle.helmholtz.specs.Table30.{table30}
-use Rattle.helmholtz.proofs.Tables.{share-gives, reached}
+use Rattle.algo.specs.declared.Share.the-variants.{I, Ii, Ij, Jj}
+use Rattle.helmholtz.proofs.Tables.{share-of}
 use Rattle.helmholtz.proofs.region3_hfe.four.Statement.{statement}
 use Rattle.helmholtz.proofs.region3_hfe.four.Tie as tie
-
-unchecked-four-requires : tie.Need-unchecked-four-requires
-unfolding ofBits rowsOf table30 plus minus scaled
-unchecked-four-requires c κs = (refl, refl, reached Zero Zero)
 
 returns : tie.Need-returns
 unfolding ofBits rowsOf table30 plus minus scaled
 returns c =
-    let a = c .before .before .before .before .args in
-    let sums = c .unchecked-four .ensures in (
-      share-gives Zero I (a .delta) (a .tau) _ (sums .0),
-      share-gives Zero Ii (a .delta) (a .tau) _ (sums .1),
-      share-gives Zero Ij (a .delta) (a .tau) _ (sums .2),
-      share-gives Zero Jj (a .delta) (a .tau) _ (sums .3),
+    let f = c .before .before .before in
+    let x = f .before in
+    let w = x .before .before .before .before .before .before in
+    let p = w .before .before .fill-powers .ensures in
+    let q = w .fill-powers2 .ensures in
+    let h = x .four-sums .ensures in (
+      share-of refl refl p q I (h .0) (f .finished .ensures),
+      share-of refl refl p q Ii (h .1) (c .before .before .finished2 .ensures),
+      share-of refl refl p q Ij (h .2) (c .before .finished3 .ensures),
+      share-of refl refl p q Jj (h .3) (c .finished4 .ensures),
     )
 
 pub four-spec : {M : Type 1} → statement M
 four-spec =
     tie.close
     (tie.spec
+    (λ c κs. search needs)
+    (λ c κs. search needs)
     (λ c. search needs)
     (λ c. search needs)
     (λ c. search needs)
-    unchecked-four-requires
+    (λ c κs. search needs)
+    (λ c κs. search needs)
+    (λ c κs. search needs)
+    (λ c κs. search needs)
+    (λ c κs. search needs)
     returns)

@@ -1,0 +1,102 @@
+-- `algo::plain_part` meets its contract. The invariant: what is left of the rows, added to the sum so far, is what it was at the start.
+use mathlib.Core.Path.{_≡_, refl, _∙_}
+use Prim.Native.Nat.{ℕ, _-_, _≤_}
+use native.Mathlib.Omega.{arith}
+use lib.IntN.{pos}
+use lib.ListN.{getD}
+use borrow.Author.Needs.{needs}
+use Rattle.common.specs.Sum.{rawTotal}
+use Rattle.algo.specs.Raw.{rowsFrom, tabledTerm}
+use Rattle.algo.specs.declared.Order.the-variants.{Zero}
+use Rattle.algo.proofs.Loops.{Within, one-more, wider, back-wider}
+use Rattle.algo.proofs.plain_part.Statement.{statement}
+use Rattle.algo.proofs.plain_part.Tie as tie
+
+abbrev Inv-loop : tie.InvT-loop
+Inv-loop before start end wi wj is js ns sum₀ k₀ sum k =
+    (k ≤ end) × (rawTotal (tabledTerm Zero Zero wi wj) before (rowsFrom is js ns start) ≡ rawTotal (tabledTerm Zero Zero wi wj) sum (rowsFrom is js ns k))
+
+abbrev μ-loop : tie.MeasureT-loop
+μ-loop before start end wi wj is js ns sum₀ k₀ sum k = end - k
+
+within : (c : tie.In-loop Inv-loop μ-loop) → Within (c .before .before .before .args .is .now) (c .before .before .before .args .js .now) (c .before .before .before .args .ns .now) (c .before .loop .k)
+within c = record { i = omega arith; j = omega arith; n = omega arith }
+
+at-end : (k end : ℕ) → k ≤ end → end ≤ k → k ≡ end
+at-end k end p q = omega arith
+
+loop-holds : tie.Need-loop-holds Inv-loop μ-loop
+loop-holds c = (omega arith, refl)
+
+mul-sum : tie.Need-mul-sum Inv-loop μ-loop
+mul-sum c = omega arith
+
+shared-slice-read-sum : tie.Need-shared-slice-read-sum Inv-loop μ-loop
+shared-slice-read-sum c = omega arith
+
+mul-power-in : tie.Need-mul-power-in Inv-loop μ-loop
+mul-power-in c = omega arith
+
+shared-slice-copy-out-power-in : tie.Need-shared-slice-copy-out-power-in Inv-loop μ-loop
+shared-slice-copy-out-power-in c = omega arith
+
+mul-power-in-2 : tie.Need-mul-power-in-2 Inv-loop μ-loop
+mul-power-in-2 c = omega arith
+
+shared-slice-copy-out-power-in-2 : tie.Need-shared-slice-copy-out-power-in-2 Inv-loop μ-loop
+shared-slice-copy-out-power-in-2 c = omega arith
+
+add-k : tie.Need-add-k Inv-loop μ-loop
+add-k c = omega arith
+
+loop-less : tie.Need-loop-less Inv-loop μ-loop
+loop-less c = omega arith
+
+cast-power-in : tie.Need-cast-power-in Inv-loop μ-loop
+cast-power-in c =
+    let l = c .before .before in
+    wider (getD (l .before .before .before .args .is .now) (l .before .loop .k) (pos 0)) (c .power-in-arg .given)
+
+cast-power-in-2 : tie.Need-cast-power-in-2 Inv-loop μ-loop
+cast-power-in-2 c =
+    let l = c .before .before .before .before in
+    wider (getD (l .before .before .before .args .js .now) (l .before .loop .k) (pos 0)) (c .power-in-arg2 .given)
+
+loop-again : tie.Need-loop-again Inv-loop μ-loop
+loop-again c =
+    let l = c .before .before .before .before .before in
+    let s = l .before .before .before in
+    let a = s .args in
+    let k = l .before .loop .k in
+    let p = rw (back-wider (getD (a .is .now) k (pos 0)) (c .before .before .before .power-in-arg .given)) at (c .before .before .power-in .ensures) in
+    let q = rw (back-wider (getD (a .js .now) k (pos 0)) (c .before .power-in-arg2 .given)) at (c .power-in2 .ensures) in (
+      omega arith,
+      rw (p, q) (l .before .loop .inv .1 ∙ one-more (tabledTerm Zero Zero (a .wi .now) (a .wj .now)) (l .before .loop .sum) (a .is .now) (a .js .now) (a .ns .now) k (within l)),
+    )
+
+returns : tie.Need-returns Inv-loop μ-loop
+returns c =
+    let l = c .before in
+    rw (at-end (l .loop .k) (l .before .before .args .end) (l .loop .inv .0) (c .loop-test .left)) at (l .loop .inv .1)
+
+pub plain-part-spec : {M : Type 1} → statement M
+plain-part-spec =
+    tie.close
+    (tie.spec
+    Inv-loop
+    μ-loop
+    loop-holds
+    mul-sum
+    shared-slice-read-sum
+    mul-power-in
+    shared-slice-copy-out-power-in
+    cast-power-in
+    (λ c κs. search needs)
+    mul-power-in-2
+    shared-slice-copy-out-power-in-2
+    cast-power-in-2
+    (λ c κs. search needs)
+    add-k
+    loop-less
+    loop-again
+    returns)

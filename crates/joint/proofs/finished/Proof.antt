@@ -1,0 +1,16 @@
+-- `joint::finished` meets its contract. Assumes nothing.
+use mathlib.Core.Path.{_∙_, ap}
+use lib.Ieee.{Float}
+use borrow.Author.Needs.{needs}
+use Rattle.common.specs.Outcome.{orNan}
+use Rattle.algo.specs.Raw.{gate}
+use Rattle.joint.proofs.finished.Statement.{statement}
+use Rattle.joint.proofs.finished.Tie as tie
+
+returns : tie.Need-returns
+returns c =
+    let a = c .before .before .args in
+    c .gated .ensures ∙ ap (λ (x : Float). orNan (gate (a .vi) (a .vj) x)) (c .before .divide .ensures)
+
+pub finished-spec : {M : Type 1} → statement M
+finished-spec = tie.close (tie.spec (λ c κs. search needs) (λ c κs. search needs) returns)

@@ -1,0 +1,3 @@
+pub mod Farthest
+pub mod Lengths
+pub mod Unique

@@ -1,0 +1,32 @@
+-- `polynomial::table_pair` meets its contract.
+use mathlib.Core.Path.{sym, _∙_, ap}
+use mathlib.Core.List.{List}
+use denote.Ref.{now}
+use borrow.Author.Needs.{needs}
+use Rattle.algo.specs.Table.{Row, rowsOf}
+use Rattle.algo.specs.Joint.{shareRule}
+use Rattle.polynomial.specs.Columns.{pairOf, pairTable}
+use Rattle.algo.proofs.Settled.{share-settled}
+use Rattle.polynomial.proofs.Lengths.{taken-by, refused-by}
+use Rattle.polynomial.proofs.polynomial.table_pair.Statement.{statement}
+use Rattle.polynomial.proofs.polynomial.table_pair.Tie as tie
+
+returns : tie.Need-returns
+unfolding pairTable
+returns c =
+    let x = c .before in
+    let a = x .before .before .before .before .args in
+    let rows = rowsOf (now (a .is)) (now (a .js)) (now (a .ns)) in
+    let p = x .raw-pair .ensures in
+    c .settle-pair .ensures
+    ∙ (rw (p .0, p .1, share-settled (a .a) (a .s) (a .vi) (a .vj) rows, share-settled (a .a) (a .t) (a .vi) (a .vj) rows))
+    ∙ sym (taken-by (λ (rs : List Row). pairOf (shareRule (a .a) (a .s) (a .vi) (a .vj) rs) (shareRule (a .a) (a .t) (a .vi) (a .vj) rs)) (now (a .is)) (now (a .js)) (now (a .ns)) (cc))
+
+returns-2 : tie.Need-returns-2
+unfolding pairTable
+returns-2 c =
+    let a = c .before .before .before .args in
+    sym (refused-by (λ (rs : List Row). pairOf (shareRule (a .a) (a .s) (a .vi) (a .vj) rs) (shareRule (a .a) (a .t) (a .vi) (a .vj) rs)) (now (a .is)) (now (a .js)) (now (a .ns)) (cc))
+
+pub table-pair-spec : {M : Type 1} → statement M
+table-pair-spec = tie.close (tie.spec (λ c κs. search needs) (λ c κs. search needs) (λ c κs. search needs) returns returns-2)

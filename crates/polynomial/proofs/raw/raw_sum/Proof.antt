@@ -1,0 +1,25 @@
+-- `polynomial::raw_sum` meets its contract: the powers that are worked cover the rows.
+use mathlib.Core.Path.{refl}
+use denote.Ref.{now}
+use borrow.Author.Needs.{needs}
+use Rattle.powers.proofs.Looked.{powers-hold}
+use Rattle.algo.proofs.Sums.{slope-ends}
+use Rattle.polynomial.specs.Farthest.{ups, downs}
+use Rattle.polynomial.proofs.Farthest.{covered}
+use Rattle.polynomial.proofs.raw.raw_sum.Statement.{statement}
+use Rattle.polynomial.proofs.raw.raw_sum.Tie as tie
+
+returns : tie.Need-returns
+returns c =
+    let x = c .before in
+    let t = x .before .before .before in
+    let v = t .before .before in
+    let a = v .before .before .before .args in
+    let is = now (a .is) in
+    let js = now (a .js) in
+    slope-ends (a .vi) (a .vj) _ _ (ups (a .a) is) (downs (a .a) is) (ups (a .b) js) (downs (a .b) js)
+    (powers-hold (a .vi) _ _ (ups (a .a) is) (downs (a .a) is) refl (v .fill-for .ensures)) (powers-hold (a .vj) _ _ (ups (a .b) js) (downs (a .b) js) refl (t .fill-for2 .ensures))
+    (covered (a .a) (a .b) is js (now (a .ns))) (x .slope-sum .ensures) (c .gated .ensures)
+
+pub raw-sum-spec : {M : Type 1} → statement M
+raw-sum-spec = tie.close (tie.spec (λ c κs. search needs) (λ c κs. search needs) (λ c κs. search needs) (λ c κs. search needs) returns)

@@ -1,0 +1,74 @@
+// How far the exponents of a column go, so that no more powers are worked than it takes.
+use algo::Order;
+use powers::fill_powers;
+use rules::magnitude;
+ghost use mathlib.Core.Path.{_≡_};
+ghost use mathlib.Core.Bool.{_&&_};
+ghost use Prim.Native.Nat.{_-_, _^_, _≤_};
+ghost use lib.Dec.{eqb};
+ghost use lib.ListN.{length};
+ghost use Rattle.powers.specs.Powers.{Powers};
+ghost use Rattle.polynomial.specs.Farthest.{steps, upOf, downOf, farthest, ups, downs};
+
+struct Span {
+    pub up: u32,
+    pub down: u32,
+}
+
+fn step_count(d: Order) -> u32
+    ensures { λ r. ⌜ r ≡ steps d ⌝ }
+{
+    match d {
+        Order::Zero => 0,
+        Order::One => 1,
+        Order::Two => 2,
+    }
+}
+
+fn span_of(column: &[i32]) -> Span
+    ensures { λ r. ⌜ (r .up ≡ farthest upOf 0 (now (column .entry))) × (r .down ≡ farthest downOf 0 (now (column .entry))) × (r .down ≤ 2 ^ 31) ⌝ }
+{
+    let mut top: i32 = 0;
+    let mut low: i32 = 0;
+    let mut k = 0;
+    while k < column.len() {
+        let n = column[k];
+        if top < n {
+            top = n;
+        }
+        if n < low {
+            low = n;
+        }
+        k += 1;
+    }
+    Span {
+        up: magnitude(top),
+        down: magnitude(low),
+    }
+}
+
+// n - s, or 0.
+fn rest(n: u32, s: u32) -> u32
+    ensures { λ r. ⌜ r ≡ n - s ⌝ }
+{
+    if n < s { 0 } else { n - s }
+}
+
+// The powers of v that a column names, differentiated so often.
+pub fn fill_for(v: f64, d: Order, column: &[i32], w: &mut [f64; 129])
+    ensures { λ _. ⌜ Powers v (now (w .entry)) (now (w .exit)) (ups d (now (column .entry))) (downs d (now (column .entry))) ⌝ }
+{
+    let span = span_of(column);
+    let s = step_count(d);
+    fill_powers(v, rest(span.up, s), span.down + s, w);
+}
+
+// Whether the columns are of one length.
+pub fn same_lengths(is: &[i32], js: &[i32], ns: &[f64]) -> bool
+    ensures { λ r. ⌜ r ≡ (eqb (length (now (is .entry))) (length (now (ns .entry))) && eqb (length (now (js .entry))) (length (now (ns .entry)))) ⌝ }
+{
+    if is.len() == ns.len() {
+        return js.len() == ns.len();
+    }
+    false
+}

@@ -1,0 +1,83 @@
+-- `powers::double` meets its contract. The invariant: as many of the next powers stand in their places as were worked. Assumes nothing.
+use mathlib.Core.Path.{_≡_}
+use Prim.Native.Nat.{ℕ, _+_, _-_, _^_, _≤_}
+use native.Mathlib.Omega.{arith}
+use mathlib.Core.List.{List}
+use lib.Ieee.{Float}
+use Rattle.powers.specs.Reach.{squared}
+use Rattle.powers.specs.Powers.{Written}
+use Rattle.powers.proofs.Doubling.{written-up}
+use Rattle.powers.proofs.double.Statement.{statement}
+use Rattle.powers.proofs.double.Tie as tie
+
+abbrev Inv-loop : tie.InvT-loop
+Inv-loop half count sq w₀ k₀ w k =
+    (k ≤ count)
+    × ((a : Float) (b : List Float) (h : ℕ) → h ≤ 31 → half ≡ 2 ^ h → sq ≡ squared h a → Written a b w₀ 64 (64 + half) → Written a b w 64 (64 + half + k))
+
+abbrev μ-loop : tie.MeasureT-loop
+μ-loop half count sq w₀ k₀ w k = count - k
+
+loop-holds : tie.Need-loop-holds Inv-loop μ-loop
+loop-holds c = (omega arith, λ a b h l e q f. let z : 64 + c .args .half + 0 ≡ 64 + c .args .half = omega arith in rw z f)
+
+add-w : tie.Need-add-w Inv-loop μ-loop
+add-w c = omega arith
+
+mul-w : tie.Need-mul-w Inv-loop μ-loop
+mul-w c = omega arith
+
+element-copy-out-w : tie.Need-element-copy-out-w Inv-loop μ-loop
+element-copy-out-w c = omega arith
+
+add-w-2 : tie.Need-add-w-2 Inv-loop μ-loop
+add-w-2 c = omega arith
+
+add-w-3 : tie.Need-add-w-3 Inv-loop μ-loop
+add-w-3 c = omega arith
+
+mul-w-2 : tie.Need-mul-w-2 Inv-loop μ-loop
+mul-w-2 c = omega arith
+
+element-write-w : tie.Need-element-write-w Inv-loop μ-loop
+element-write-w c = omega arith
+
+add-k : tie.Need-add-k Inv-loop μ-loop
+add-k c = omega arith
+
+loop-less : tie.Need-loop-less Inv-loop μ-loop
+loop-less c = omega arith
+
+loop-again : tie.Need-loop-again Inv-loop μ-loop
+loop-again c =
+    let l = c .before .before in
+    let k = l .loop .k in
+    let w = l .loop .w in (
+      omega arith,
+      λ a b h m e q f. rw (e, q) (written-up a b w h k m (omega arith) (omega arith) (rw e at (l .loop .inv .1 a b h m e q f))),
+    )
+
+returns : tie.Need-returns Inv-loop μ-loop
+returns c =
+    let l = c .before in
+    let done : l .loop .k ≡ l .before .args .count = omega arith in
+    λ a b h m e q f. rw done at (l .loop .inv .1 a b h m e q f)
+
+pub double-spec : {M : Type 1} → statement M
+double-spec =
+    tie.close
+    (tie.spec
+    Inv-loop
+    μ-loop
+    loop-holds
+    add-w
+    mul-w
+    element-copy-out-w
+    add-w-2
+    add-w-3
+    mul-w-2
+    element-write-w
+    add-k
+    loop-less
+    loop-again
+    returns)

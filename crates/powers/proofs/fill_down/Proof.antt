@@ -1,0 +1,84 @@
+-- `powers::fill_down` meets its contract. The invariant: as many of the negative powers stand in their places as were worked.
+-- Assumes nothing.
+use mathlib.Core.Path.{_≡_}
+use Prim.Native.Nat.{ℕ, _+_, _-_, _≤_}
+use native.Mathlib.Omega.{arith}
+use mathlib.Core.List.{List}
+use lib.Ieee.{Float, ofBits}
+use borrow.Author.Needs.{needs}
+use Rattle.powers.specs.Powers.{Written}
+use Rattle.powers.proofs.Doubling.{written-down}
+use Rattle.powers.proofs.fill_down.Statement.{statement}
+use Rattle.powers.proofs.fill_down.Tie as tie
+
+abbrev Inv-loop : tie.InvT-loop
+Inv-loop low w₀ k₀ w k = (k ≤ low) × ((a : Float) (b : List Float) (hi : ℕ) → 65 + low ≤ hi → Written a b w₀ 64 hi → Written a b w (64 - k) hi)
+
+abbrev μ-loop : tie.MeasureT-loop
+μ-loop low w₀ k₀ w k = low - k
+
+loop-holds : tie.Need-loop-holds Inv-loop μ-loop
+loop-holds c = (omega arith, λ a b hi n f. f)
+
+cast-at : tie.Need-cast-at Inv-loop μ-loop
+cast-at c = omega arith
+
+add-over : tie.Need-add-over Inv-loop μ-loop
+add-over c = omega arith
+
+mul-over : tie.Need-mul-over Inv-loop μ-loop
+mul-over c = omega arith
+
+element-copy-out-over : tie.Need-element-copy-out-over Inv-loop μ-loop
+element-copy-out-over c = omega arith
+
+sub-w : tie.Need-sub-w Inv-loop μ-loop
+sub-w c = omega arith
+
+mul-w : tie.Need-mul-w Inv-loop μ-loop
+mul-w c = omega arith
+
+element-write-w : tie.Need-element-write-w Inv-loop μ-loop
+element-write-w c = omega arith
+
+add-k : tie.Need-add-k Inv-loop μ-loop
+add-k c = omega arith
+
+loop-less : tie.Need-loop-less Inv-loop μ-loop
+loop-less c = omega arith
+
+loop-again : tie.Need-loop-again Inv-loop μ-loop
+unfolding ofBits
+loop-again c =
+    let l = c .before .before .before in
+    let k = l .loop .k in
+    let w = l .loop .w in (
+      omega arith,
+      λ a b hi n f. rw (c .over .ensures) (written-down a b w hi k (omega arith) (omega arith) (l .loop .inv .1 a b hi n f)),
+    )
+
+returns : tie.Need-returns Inv-loop μ-loop
+returns c =
+    let l = c .before in
+    let done : l .loop .k ≡ l .before .args .low = omega arith in
+    λ a b hi n f. rw done at (l .loop .inv .1 a b hi n f)
+
+pub fill-down-spec : {M : Type 1} → statement M
+fill-down-spec =
+    tie.close
+    (tie.spec
+    Inv-loop
+    μ-loop
+    loop-holds
+    cast-at
+    add-over
+    mul-over
+    element-copy-out-over
+    (λ c κs. search needs)
+    sub-w
+    mul-w
+    element-write-w
+    add-k
+    loop-less
+    loop-again
+    returns)

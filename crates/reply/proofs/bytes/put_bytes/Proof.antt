@@ -1,0 +1,85 @@
+-- `reply::bytes::put_bytes` meets its contract. Assumes nothing.
+use mathlib.Core.Path.{_≡_, refl, ap, _∙_}
+use mathlib.Core.List.{List, [], _∷_}
+use Prim.Native.Nat.{ℕ, _+_, _-_, _*_, _≤_}
+use native.Mathlib.Nat.{le-antisymm}
+use native.Mathlib.Omega.{arith}
+use lib.ListN.{length}
+use lib.Seq.{sets}
+use borrow.Author.Needs.{needs}
+use Rattle.buffer.specs.Bytes.{joined, eight}
+use Rattle.buffer.proofs.Laws.{sets-append, placed-all, pieces-more}
+use Rattle.reply.proofs.Laws.{head-word, number-length}
+use Rattle.reply.specs.Bytes.{numberBytes, replyBytes}
+use Rattle.reply.proofs.bytes.put_bytes.Statement.{statement}
+use Rattle.reply.proofs.bytes.put_bytes.Tie as tie
+
+abbrev Inv-loop : tie.InvT-loop
+Inv-loop out₀ at numbers k₀ out k = (k ≤ 10) × (length out ≡ length out₀) × (out ≡ sets out₀ (at + 8) (joined (numberBytes numbers) k))
+
+abbrev μ-loop : tie.MeasureT-loop
+μ-loop out₀ at numbers k₀ out k = 10 - k
+
+loop-holds : tie.Need-loop-holds Inv-loop μ-loop
+unfolding joined
+loop-holds c = search needs
+
+array-read-put-float : tie.Need-array-read-put-float Inv-loop μ-loop
+array-read-put-float c = omega arith
+
+loop-again : tie.Need-loop-again Inv-loop μ-loop
+loop-again c =
+    let p = c .before .before in
+    let l = c .before .before .before .before .before in
+    let w = c .before .before .before .before .before .before .before .before .before in
+    let s = c .before .before .before .before .before .before .before .before .before .before .before .before .before .before in
+    let f = numberBytes (s .args .r .numbers) in
+    let k = l .loop .k in (
+      omega arith,
+      p .put-float .kept .0 ∙ l .loop .inv .1,
+      p .put-float .ensures
+          ∙ placed-all (l .loop .out) (s .args .at + 8 + 8 * k) (f k) (omega (arith, s .pre, l .loop .inv .1, w .put-word .kept .0))
+          ∙ pieces-more f 8 (number-length (s .args .r .numbers)) (w .put-word .last .0) (l .loop .out) (s .args .at + 8) k (s .args .at + 8 + 8 * k) (l .loop .inv .2) refl,
+    )
+
+returns : tie.Need-returns Inv-loop μ-loop
+unfolding replyBytes
+returns c =
+    let l = c .before in
+    let w = c .before .before .before .before .before in
+    let s = w .before .before .before .before .before in
+    let a = s .args in
+    let f = numberBytes (a .r .numbers) in
+    let head = a .r .refusal ∷ a .r .letter ∷ 0 ∷ 0 ∷ 0 ∷ 0 ∷ 0 ∷ 0 ∷ [] in
+    let x = w .before .before .wide in
+    let y = w .before .wide2 in
+    let e : eight (x .result + 256 * y .result) ≡ head = head-word (x .result) (y .result) (x .ensures .1) (y .ensures .1) ∙ cc in
+    l .loop .inv .2
+    ∙ ap (λ (n : ℕ). sets (w .put-word .last .0) (a .at + 8) (joined f n)) (le-antisymm (l .loop .inv .0) (c .loop-test .left))
+    ∙ ap (λ (m : List ℕ). sets m (a .at + 8) (joined f 10))
+    (w .put-word .ensures ∙ placed-all (a .out .now) (a .at) (eight (x .result + 256 * y .result)) (omega (arith, s .pre)) ∙ ap (λ (m : List ℕ). sets (a .out .now) (a .at) m) e)
+    ∙ sets-append head (joined f 10) (a .out .now) (a .at)
+
+pub put-bytes-spec : {M : Type 1} → statement M
+put-bytes-spec =
+    tie.close
+    (tie.spec
+    Inv-loop
+    μ-loop
+    (λ c κs. search needs)
+    (λ c κs. search needs)
+    (λ c. search needs)
+    (λ c. search needs)
+    (λ c κs. search needs)
+    loop-holds
+    (λ c. search needs)
+    (λ c. search needs)
+    (λ c. search needs)
+    (λ c. search needs)
+    array-read-put-float
+    (λ c κs. search needs)
+    (λ c. search needs)
+    (λ c. search needs)
+    loop-again
+    (λ c. search needs)
+    returns)

@@ -1,0 +1,12 @@
+-- `reply::shape::letter_reply` meets its contract. Assumes nothing.
+use lib.Ieee.{ofBits}
+use borrow.Author.Needs.{needs}
+use Rattle.reply.proofs.shape.letter_reply.Statement.{statement}
+use Rattle.reply.proofs.shape.letter_reply.Tie as tie
+
+returns : tie.Need-returns
+unfolding ofBits
+returns c = rw (c .letter-byte .ensures, c .before .refusal-byte .ensures)
+
+pub letter-reply-spec : {M : Type 1} → statement M
+letter-reply-spec = tie.close (tie.spec (λ c κs. search needs) (λ c κs. search needs) returns)

@@ -1,0 +1,24 @@
+-- `reply::shape::number_reply` meets its contract. Assumes nothing.
+use mathlib.Core.Path.{sym, ap, _∙_}
+use lib.Ieee.{ofBits}
+use Rattle.common.specs.Answer.{paper}
+use Rattle.common.specs.declared.Answer.{Answer}
+use Rattle.reply.specs.Shape.{refusedBy, numberReply}
+use borrow.Author.Needs.{needs}
+use Rattle.reply.proofs.shape.number_reply.Statement.{statement}
+use Rattle.reply.proofs.shape.number_reply.Tie as tie
+
+returns : tie.Need-returns
+unfolding ofBits
+returns c = sym (ap (λ (x : Answer). numberReply (paper x)) (c .before .a .given .1))
+
+returns-2 : tie.Need-returns-2
+returns-2 c =
+    c .refused .ensures
+    ∙ ap refusedBy (c .before .number .ensures)
+    ∙ sym (ap (λ (x : Answer). numberReply (paper x)) (c .before .before .before .a2 .given .1))
+
+pub number-reply-spec : {M : Type 1} → statement M
+number-reply-spec =
+    tie.close
+    (tie.spec (λ c. search needs) (λ c. search needs) (λ c κs. search needs) (λ c κs. search needs) returns returns-2)

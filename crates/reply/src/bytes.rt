@@ -1,0 +1,53 @@
+// The 88 bytes of a reply, written and compared.
+use crate::Reply;
+use buffer::byte_at;
+use buffer::put_float;
+use buffer::put_word;
+use buffer::wide;
+ghost use mathlib.Core.Path.{_≡_};
+ghost use Prim.Native.Nat.{_+_, _≤_};
+ghost use lib.ListN.{length};
+ghost use lib.Seq.{sets};
+ghost use Rattle.buffer.specs.Bytes.{placed};
+ghost use Rattle.reply.specs.Bytes.{replyBytes, agreed};
+
+fn put_bytes(out: &mut [u8], at: usize, r: Reply)
+    requires { ⌜ at + 88 ≤ length (now out) ⌝ }
+    ensures { λ _. ⌜ now (out .exit) ≡ sets (now (out .entry)) at (replyBytes r) ⌝ }
+{
+    put_word(out, at, wide(r.refusal) + 256 * wide(r.letter));
+    let numbers = r.numbers;
+    let mut k = 0;
+    while k < 10 {
+        put_float(out, at + 8 + 8 * k, numbers[k]);
+        k += 1;
+    }
+}
+
+// The bytes of a reply from an index on, where all of them lie in the page.
+pub fn put_reply(out: &mut [u8], at: usize, r: Reply)
+    ensures { λ _. ⌜ now (out .exit) ≡ placed (now (out .entry)) at (replyBytes r) ⌝ }
+{
+    let n = out.len();
+    if n >= 88 {
+        if at <= n - 88 {
+            put_bytes(out, at, r);
+        }
+    }
+}
+
+// Whether the 88 bytes that follow the 24 of a row are those of a reply.
+pub fn agrees(stored: &[u8], r: Reply) -> bool
+    ensures { λ b. ⌜ b ≡ agreed r (now (stored .entry)) ⌝ }
+{
+    let mut bytes = [0u8; 88];
+    put_bytes(&mut bytes, 0, r);
+    let mut k = 0;
+    while k < 88 {
+        if bytes[k] != byte_at(stored, 24 + k) {
+            return false;
+        }
+        k += 1;
+    }
+    true
+}

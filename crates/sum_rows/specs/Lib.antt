@@ -1,0 +1,4 @@
+pub mod Shape
+pub mod Sums
+pub mod Table
+pub mod Row
