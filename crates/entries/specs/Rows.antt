@@ -1,5 +1,5 @@
 -- To believe: rows of 24 bytes and replies of 88, byte by byte; which stored answers agree.
-use Prim.Native.Nat.{ℕ, zero, suc, _+_, _*_, _/_, min}
+use Prim.Native.Nat.{ℕ, zero, suc, _+_, _*_, _/_, _%_, _^_, min}
 use mathlib.Core.Bool.{Bool, true, _&&_}
 use mathlib.Core.List.{List, [], _∷_, _++_}
 use lib.Dec.{eqb}
@@ -18,10 +18,17 @@ replyAt s i = replyRule (entryOf (getD s i 0)) (intIn s (i + 4)) (floatIn s (i +
 abbrev pub numberBytes : List Float → ℕ → List ℕ
 numberBytes xs k = eight (toBits binary64 (getD xs k nan))
 
--- byte 0 the refusal, byte 1 the letter or 0, bytes 2 to 7 zero, then the ten numbers
+-- the four bytes of a number below 2^32
+abbrev pub four : ℕ → List ℕ
+four n = n % 256 ∷ n / 2 ^ 8 % 256 ∷ n / 2 ^ 16 % 256 ∷ n / 2 ^ 24 % 256 ∷ []
+
+-- byte 0 the refusal, byte 1 the letter or 0, bytes 2 and 3 zero, bytes 4 to 7 what stands beside
+abbrev pub headBytes : ℕ → ℕ → ℕ → List ℕ
+headBytes refusal letter beside = (refusal ∷ letter ∷ 0 ∷ 0 ∷ []) ++ four beside
+
+-- then the ten numbers
 unfoldable pub replyBytes : Reply → List ℕ
-replyBytes r =
-    (r .refusal ∷ r .letter ∷ 0 ∷ 0 ∷ 0 ∷ 0 ∷ 0 ∷ 0 ∷ []) ++ joined (numberBytes (r .numbers)) 10
+replyBytes r = headBytes (r .refusal) (r .letter) (r .beside) ++ joined (numberBytes (r .numbers)) 10
 
 -- the rows of a page that are answered: whole ones whose replies have room
 abbrev pub rowsIn : List ℕ → List ℕ → ℕ

@@ -38,11 +38,14 @@ pub enum Entry {
     HsRecord,
     Property,
     ColumnRow,
+    CpW,
 }
 
-// What a call answers: the refusal's number or 0, the letter in ASCII or 0, and up to ten numbers.
+// What a call answers: the refusal's number or 0, the letter in ASCII or 0, a whole number beside these (of cp and w together: w's refusal), and
+// up to ten numbers.
 pub struct Reply {
     pub refusal: u8,
     pub letter: u8,
+    pub beside: u32,
     pub numbers: [f64; 10],
 }

@@ -13,7 +13,8 @@ ghost use mathlib.Core.Path.{_≡_};
 ghost use Prim.Native.Nat.{_+_, _≤_, _<_, _^_, min};
 ghost use lib.ListN.{length};
 ghost use lib.Seq.{sets};
-ghost use Rattle.entries.specs.Rows.{replyAt, replyBytes, rowsIn, repliesTo};
+ghost use Rattle.buffer.specs.Bytes.{eight};
+ghost use Rattle.entries.specs.Rows.{replyAt, headBytes, replyBytes, rowsIn, repliesTo};
 
 pub fn reply_at(s: &[u8], at: usize) -> Reply
     requires { ⌜ at + 24 < 2 ^ 64 ⌝ }
@@ -27,11 +28,25 @@ pub fn reply_at(s: &[u8], at: usize) -> Reply
     )
 }
 
+// A whole number of 32 bits, with its bound.
+fn half(n: u32) -> u64
+    ensures { λ r. ⌜ (r ≡ n) × (r < 2 ^ 32) ⌝ }
+{
+    n as u64
+}
+
+// The first eight bytes of a reply as one number.
+fn head(refusal: u8, letter: u8, beside: u32) -> u64
+    ensures { λ r. ⌜ eight r ≡ headBytes refusal letter beside ⌝ }
+{
+    wide(refusal) + 256 * wide(letter) + 0x1_0000_0000 * half(beside)
+}
+
 pub fn put_reply(out: &mut [u8], at: usize, r: Reply)
     requires { ⌜ at + 88 ≤ length (now out) ⌝ }
     ensures { λ _. ⌜ now (out .exit) ≡ sets (now (out .entry)) at (replyBytes r) ⌝ }
 {
-    put_word(out, at, wide(r.refusal) + 256 * wide(r.letter));
+    put_word(out, at, head(r.refusal, r.letter, r.beside));
     let numbers = r.numbers;
     let mut k = 0;
     while k < 10 {

@@ -1,5 +1,6 @@
-// The shapes of a reply: a refusal, one number, a letter, a record, a row of the column run.
+// The shapes of a reply: a refusal, one number, a letter, a record, a row of the column run, cp and w together.
 use crate::Reply;
+use by_number::CpW;
 use column_run::Line;
 use common::Answer;
 use common::number;
@@ -13,7 +14,8 @@ ghost use mathlib.Core.Path.{_≡_};
 ghost use Rattle.common.specs.Answer.{paper};
 ghost use Rattle.subregion.specs.Letter.{paperLetter};
 ghost use Rattle.record.specs.Record.{paperRecord};
-ghost use Rattle.entries.specs.Shape.{refusedBy, numberReply, letterReply, recordReply, rowReply, numberAt, placeOf};
+ghost use Rattle.by_number.specs.Together.{paperCpW};
+ghost use Rattle.entries.specs.Shape.{refusedBy, numberReply, letterReply, recordReply, rowReply, cpWReply, numberAt, placeOf};
 
 // The refusal of an entry, a boundary, a letter or a phase that does not exist.
 pub const UNKNOWN: u8 = 255;
@@ -24,6 +26,7 @@ pub fn refused(k: u8) -> Reply
     Reply {
         refusal: k,
         letter: 0,
+        beside: 0,
         numbers: [0.0; 10],
     }
 }
@@ -35,6 +38,7 @@ pub fn number_reply(a: Answer) -> Reply
         Answer::Value(x) => Reply {
             refusal: 0,
             letter: 0,
+            beside: 0,
             numbers: [x, 0.0, 0.0, 0.0, 0.0, 0.0, 0.0, 0.0, 0.0, 0.0],
         },
         Answer::Refused(k) => refused(number(k)),
@@ -48,6 +52,7 @@ pub fn letter_reply(c: LetterAnswer) -> Reply
     Reply {
         refusal: refusal_byte(c),
         letter: letter_byte(c),
+        beside: 0,
         numbers,
     }
 }
@@ -60,6 +65,7 @@ pub fn record_reply(a: RecordAnswer) -> Reply
     Reply {
         refusal: verdict_byte(v),
         letter: 0,
+        beside: 0,
         numbers: fields(x),
     }
 }
@@ -70,7 +76,26 @@ pub fn row_reply(l: Line) -> Reply
     Reply {
         refusal: l.refusal,
         letter: l.letter,
+        beside: 0,
         numbers: [l.density, 0.0, 0.0, 0.0, 0.0, 0.0, 0.0, 0.0, 0.0, 0.0],
+    }
+}
+
+// cp first, and w's refusal beside cp's.
+pub fn cp_w_reply(a: CpW) -> Reply
+    ensures { λ r. ⌜ r ≡ cpWReply (paperCpW a) ⌝ }
+{
+    let cp = a.cp;
+    let w = a.w;
+    let first = number_reply(cp);
+    let second = number_reply(w);
+    let xs = first.numbers;
+    let ys = second.numbers;
+    Reply {
+        refusal: first.refusal,
+        letter: 0,
+        beside: second.refusal as u32,
+        numbers: [xs[0], ys[0], 0.0, 0.0, 0.0, 0.0, 0.0, 0.0, 0.0, 0.0],
     }
 }
 

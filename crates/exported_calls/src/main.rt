@@ -22,6 +22,7 @@ const FOUND_BYTE: u8 = 90;
 struct Called {
     refusal: u8,
     letter: u8,
+    beside: u8,
     numbers: [f64; 10],
 }
 
@@ -40,6 +41,7 @@ fn call_number(entry: u8, n: i32, a: f64, b: f64) -> Called {
     Called {
         refusal,
         letter: 0,
+        beside: 0,
         numbers: [x, 0.0, 0.0, 0.0, 0.0, 0.0, 0.0, 0.0, 0.0, 0.0],
     }
 }
@@ -51,7 +53,22 @@ fn call_letter(a: f64, b: f64) -> Called {
     Called {
         refusal,
         letter,
+        beside: 0,
         numbers,
+    }
+}
+
+// cp and w: w's refusal stands beside cp's.
+fn call_cp_w(a: f64, b: f64) -> Called {
+    let mut cp = FOUND;
+    let mut w = FOUND;
+    let mut beside = FOUND_BYTE;
+    let refusal = region3_c::r3_cp_w(a, b, &mut cp, &mut w, &mut beside);
+    Called {
+        refusal,
+        letter: 0,
+        beside,
+        numbers: [cp, w, 0.0, 0.0, 0.0, 0.0, 0.0, 0.0, 0.0, 0.0],
     }
 }
 
@@ -68,6 +85,7 @@ fn call_record(entry: u8, a: f64, b: f64) -> Called {
     Called {
         refusal,
         letter: 0,
+        beside: 0,
         numbers,
     }
 }
@@ -83,6 +101,7 @@ fn call_column(a: f64, b: f64) -> Called {
     Called {
         refusal: if verdict == 0 { refusals[0] } else { verdict },
         letter: letters[0],
+        beside: 0,
         numbers: [densities[0], 0.0, 0.0, 0.0, 0.0, 0.0, 0.0, 0.0, 0.0, 0.0],
     }
 }
@@ -92,6 +111,7 @@ fn call(entry: u8, n: i32, a: f64, b: f64) -> Called {
         8 => call_letter(a, b),
         20 | 21 | 22 | 23 | 24 => call_record(entry, a, b),
         30 => call_column(a, b),
+        34 => call_cp_w(a, b),
         _ => call_number(entry, n, a, b),
     }
 }
@@ -104,7 +124,11 @@ fn equal(a: &[u8; 112], b: &[u8; 112]) -> bool {
 fn stored(row: [u8; 112], c: Called) -> bool {
     let numbers = c.numbers;
     let mut answered = row;
-    put_word(&mut answered, 24, wide(c.refusal) + 256 * wide(c.letter));
+    put_word(
+        &mut answered,
+        24,
+        wide(c.refusal) + 256 * wide(c.letter) + 0x1_0000_0000 * wide(c.beside),
+    );
     put_float(&mut answered, 32, numbers[0]);
     put_float(&mut answered, 40, numbers[1]);
     put_float(&mut answered, 48, numbers[2]);
@@ -151,9 +175,9 @@ fn judge_file(fd: i32, rows: &mut [u64], differ: &mut [u64]) -> Tally {
     t
 }
 
-fn say_entries(rows: &[u64; 31], differ: &[u64; 31]) {
+fn say_entries(rows: &[u64; 35], differ: &[u64; 35]) {
     let mut e = 0;
-    while e < 31 {
+    while e < 35 {
         if rows[e] > 0 {
             say_number(b"entry ", e as u64);
             say_counts(rows[e], differ[e]);
@@ -182,8 +206,8 @@ fn main() {
         say(b"not read\n");
         return;
     }
-    let mut rows = [0u64; 31];
-    let mut differ = [0u64; 31];
+    let mut rows = [0u64; 35];
+    let mut differ = [0u64; 35];
     let t = judge_file(fd, &mut rows, &mut differ);
     libc::close(fd);
     say_entries(&rows, &differ);
