@@ -10,6 +10,8 @@ byte after_r3_cp_w(double, double, double *, double *, byte *);
 typedef byte call(double, double, double *);
 
 enum { OCP = 8, OW = 10 };
+static byte cp_before(double t, double d, double *out) { return before_r3_property(OCP, t, d, out); }
+static byte cp_after(double t, double d, double *out) { return after_r3_property(OCP, t, d, out); }
 static byte two_before(double t, double d, double *out) { return before_r3_property(OCP, t, d, out) + 16 * before_r3_property(OW, t, d, out + 1); }
 static byte joint_after(double t, double d, double *out) {
     byte w, cp = after_r3_cp_w(t, d, out, out + 1, &w);
@@ -55,6 +57,7 @@ int main(int n, char **words) {
     if (repeats > 63) repeats = 63;
     set("record of (T,d)", before_r3_td, after_r3_td, 623.15, 863.15, 100.0, 800.0, rows, repeats);
     set("record of (p,T)", before_r3_pt, after_r3_pt, 16.529, 100.0, 623.15, 863.15, rows, repeats);
+    set("cp by number", cp_before, cp_after, 623.15, 863.15, 100.0, 800.0, rows, repeats);
     set("cp and w: two properties by number, and both together", two_before, joint_after, 623.15, 863.15, 100.0, 800.0, rows, repeats);
     return 0;
 }

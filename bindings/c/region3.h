@@ -12,7 +12,7 @@
  *  - A pointer is to live memory of the size that its type or its length says, aligned, and no memory that a call writes overlaps other memory
  *    of that call.
  *  - The processor rounds to nearest, ties to even, as every C program starts. In another rounding mode (fesetround, or a library that sets one)
- *    12 of 14 calls answered other bits at some of a thousand points. r3_rounds_to_nearest() tells which it is. Flush-to-zero changed none
+ *    13 of the 15 calls answered other bits at some of a thousand points. r3_rounds_to_nearest() tells which it is. Flush-to-zero changed none
  *    of 14 calls, tried at a point each; where a step is subnormal it can: 1e-160 squared by r3_power is then 0.
  *
  * What a number is worth (docs/DIFFERENCES.md has each with its input):
