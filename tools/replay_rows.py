@@ -24,6 +24,10 @@ import rules_rows
 TOP = Path(__file__).resolve().parent.parent
 REPLAY = TOP / "crates/replay"
 ROWS, SEED = 48000, 11
+# The entries of the first list (0: rows that name none), and the lists of those that came later, each with its rows: a new entry has a list of its
+# own behind the others, so that no row of before moves.
+FIRST = "0,1,2,3,4,5,6,7,8,9,10,11,12,13,14,15,16,20,21,22,23,24,25,30"
+LATER = (("34", 1500),)
 ROW, ANSWER = 24, 88
 NAMED = 10  # differing rows that `replay` names
 
@@ -52,15 +56,22 @@ def named():
 
 
 def records(program):
-    """The oracle's list and the named rows, each of these with the oracle's answer."""
-    with tempfile.TemporaryDirectory() as folder:
-        to = str(Path(folder) / "rows.bin")
-        subprocess.run([program, "store", "--rows", str(ROWS), "--seed", str(SEED), "--to", to], check=True, stdout=subprocess.DEVNULL)
-        stored = Path(to).read_bytes()
+    """The oracle's first list, the named rows, each of these with the oracle's answer, and the later lists."""
     rows = [row for row, _ in named()]
     answers = subprocess.run([program, "answers"], input=b"".join(rows), stdout=subprocess.PIPE, check=True).stdout
-    out = [stored[i:i + ROW + ANSWER] for i in range(0, len(stored), ROW + ANSWER)]
-    return out + [row + answers[ANSWER * i:ANSWER * (i + 1)] for i, row in enumerate(rows)]
+    out = listed(program, FIRST, ROWS) + [row + answers[ANSWER * i:ANSWER * (i + 1)] for i, row in enumerate(rows)]
+    for entries, count in LATER:
+        out += listed(program, entries, count)
+    return out
+
+
+def listed(program, entries, count):
+    with tempfile.TemporaryDirectory() as folder:
+        to = str(Path(folder) / "rows.bin")
+        words = [program, "store", "--entries", entries, "--rows", str(count), "--seed", str(SEED), "--to", to]
+        subprocess.run(words, check=True, stdout=subprocess.DEVNULL)
+        stored = Path(to).read_bytes()
+    return [stored[i:i + ROW + ANSWER] for i in range(0, len(stored), ROW + ANSWER)]
 
 
 def spoiled(stored, each):
@@ -69,7 +80,8 @@ def spoiled(stored, each):
     for i, record in enumerate(stored):
         places[record[0]].append(i)
     out, chosen, byte = list(stored), [], 0
-    for entry in sorted(places):
+    later = [int(entry) for entries, _ in LATER for entry in entries.split(",")]
+    for entry in [entry for entry in sorted(places) if entry not in later] + [entry for entry in later if entry in places]:
         have = places[entry]
         count = min(each, len(have))
         for k in range(count):
@@ -92,7 +104,7 @@ def said(name, stored, wrong):
 
 
 # the entries that region3_c exports
-EXPORTED = (1, 2, 3, 4, 5, 6, 8, 20, 21, 22, 23, 24, 25, 30)
+EXPORTED = (1, 2, 3, 4, 5, 6, 8, 20, 21, 22, 23, 24, 25, 30, 34)
 UNEQUAL = "columns of unequal length: refusal 7 letter 90 row's refusal 90\n"
 
 

@@ -139,6 +139,19 @@ static void properties(void) {
     say("r3_property");
 }
 
+static void heat_and_sound(void) {
+    begin(15);
+    for (int i = 0; i < ROWS; i++) {
+        double cp, w, t = any(623.15, 863.15), d = any(100, 800);
+        r3_byte beside;
+        mix(r3_cp_w(t, d, &cp, &w, &beside));
+        mix(beside);
+        mix_number(cp);
+        mix_number(w);
+    }
+    say("r3_cp_w");
+}
+
 static void letters(void) {
     begin(13);
     for (int i = 0; i < ROWS; i++) {
@@ -185,6 +198,7 @@ static void all(void) {
     properties();
     letters();
     columns();
+    heat_and_sound();
 }
 
 #ifdef ALONE

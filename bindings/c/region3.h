@@ -12,7 +12,7 @@
  *  - A pointer is to live memory of the size that its type or its length says, aligned, and no memory that a call writes overlaps other memory
  *    of that call.
  *  - The processor rounds to nearest, ties to even, as every C program starts. In another rounding mode (fesetround, or a library that sets one)
- *    12 of the 14 calls answered other bits at some of a thousand points. r3_rounds_to_nearest() tells which it is. Flush-to-zero changed none
+ *    13 of the 15 calls answered other bits at some of a thousand points. r3_rounds_to_nearest() tells which it is. Flush-to-zero changed none
  *    of 14 calls, tried at a point each; where a step is subnormal it can: 1e-160 squared by r3_power is then 0.
  *
  * What a number is worth (docs/DIFFERENCES.md has each with its input):
@@ -112,6 +112,10 @@ r3_byte r3_hs(double h, double s, double *out);
 
 /* One property at a T and a d, by its number. */
 r3_byte r3_property(int number, double t, double d, double *out);
+
+/* Isobaric heat capacity, kJ/(kg K), and speed of sound, m/s, at a T and a d, for the price of one: R3_OCP and R3_OW, bit for bit. Each is refused by
+ * itself: returns cp's refusal and writes w's, so look at both. Where the arguments are at fault both are refused with the same number. */
+r3_byte r3_cp_w(double t, double d, double *cp, double *w, r3_byte *w_refusal);
 
 /* The subregion's letter at a p and a T, in ASCII. */
 r3_byte r3_letter(double p, double t, r3_byte *letter);

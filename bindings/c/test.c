@@ -187,6 +187,25 @@ static void properties(void) {
     expect(r3_property(36, 0.0 / 0.0, 500, &x) == R3_PROPERTY, "6 comes before 1", 36, 0);
 }
 
+// cp and w together are the properties asked one by one; each is refused by itself, and both where an argument is at fault
+static void heat_and_sound(void) {
+    double cp, w, x;
+    r3_byte beside;
+    for (int i = 0; i < 200; i++) {
+        double t = 623.15 + 1.2 * i, d = 100 + 3.5 * ((37 * i) % 200);
+        r3_byte refusal = r3_cp_w(t, d, &cp, &w, &beside);
+        expect(r3_property(R3_OCP, t, d, &x) == refusal && same(x, cp), "cp of both is R3_OCP", t, d);
+        expect(r3_property(R3_OW, t, d, &x) == beside && same(x, w), "w of both is R3_OW", t, d);
+    }
+    expect(r3_cp_w(650, 500, &cp, &w, &beside) == R3_ACCEPTED && printed(cp, 13.8935717, 9), "cp of R7-97 table 33", 650, 500);
+    expect(beside == R3_ACCEPTED && printed(w, 502.005554, 9), "w of R7-97 table 33", 650, 500);
+    cp = w = 7;
+    expect(r3_cp_w(0.0 / 0.0, 99, &cp, &w, &beside) == R3_NOT_FINITE && beside == R3_NOT_FINITE, "1 of both", 0, 99);
+    expect(same(cp, 0.0) && same(w, 0.0), "a refused pair is +0.0", cp, w);
+    expect(r3_cp_w(900, 99, &cp, &w, &beside) == R3_FIRST && beside == R3_FIRST, "2 of both", 900, 99);
+    expect(r3_cp_w(650, 99, &cp, &w, &beside) == R3_SECOND && beside == R3_SECOND, "3 of both", 650, 99);
+}
+
 static void rules(void) {
     double x;
     expect(r3_power(2, -3, &x) == R3_ACCEPTED && x == 0.125, "2^-3", 2, -3);
@@ -263,7 +282,7 @@ static const int modes[] = {0, 0x800000, 0x400000, 0xc00000};
 #error "the rounding modes of this processor are not known here"
 #endif
 
-enum { CALLS = 14, POINTS = 1000 };
+enum { CALLS = 15, POINTS = 1000 };
 
 struct answer {
     double numbers[R3_FIELDS];
@@ -301,6 +320,7 @@ static void call_all(struct point z, struct answer *a) {
     a[11].refusal = r3_root(z.x, a[11].numbers);
     a[12].refusal = r3_logarithm(z.x, a[12].numbers);
     a[13].refusal = r3_exponential(z.x, a[13].numbers);
+    a[14].refusal = r3_cp_w(z.t, z.d, a[14].numbers, a[14].numbers + 1, &a[14].of_row);
 }
 
 // The check of the rounding mode agrees with fegetround. Why it is there: how many calls answer other bits in another mode is printed.
@@ -330,6 +350,7 @@ static void rounding(void) {
 int main(void) {
     published();
     properties();
+    heat_and_sound();
     rules();
     refusals();
     columns();

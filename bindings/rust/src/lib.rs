@@ -153,6 +153,33 @@ pub fn property_by_number(o_id: i32, t: Kelvin, d: KgPerM3) -> Result<f64, Refus
     number(|out| unsafe { raw::r3_property(o_id, t.0, d.0, out) })
 }
 
+/// What [`cp_w`] answers: each half a value or a refusal of its own.
+#[derive(Clone, Copy, Debug, PartialEq)]
+pub struct CpW {
+    /// Isobaric heat capacity.
+    pub cp: Result<KJPerKgK, Refusal>,
+    /// Speed of sound in m/s.
+    pub w: Result<f64, Refusal>,
+}
+
+/// Isobaric heat capacity and speed of sound at a temperature and a density, for the price of one: [`Property::OCP`] and [`Property::OW`], bit for bit.
+///
+/// ```
+/// use region3::{cp_w, Kelvin, KgPerM3};
+/// let both = cp_w(Kelvin(650.0), KgPerM3(500.0));
+/// println!("{} kJ/(kg K), {} m/s", both.cp?.0, both.w?);
+/// # Ok::<(), region3::Refusal>(())
+/// ```
+pub fn cp_w(t: Kelvin, d: KgPerM3) -> CpW {
+    let (mut cp, mut w, mut w_refusal) = (0.0, 0.0, 0);
+    // SAFETY: two numbers and a byte of ours, apart, and the call keeps no pointer.
+    let cp_refusal = unsafe { raw::r3_cp_w(t.0, d.0, &mut cp, &mut w, &mut w_refusal) };
+    CpW {
+        cp: answer(cp_refusal, KJPerKgK(cp)),
+        w: answer(w_refusal, w),
+    }
+}
+
 /// The subregion's letter, 'a' to 'z'.
 ///
 /// For 23 < p <= 25 MPa a theorem says that it is the letter of the exact published boundaries wherever T is a millionth of a kelvin or more away from

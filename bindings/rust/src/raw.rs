@@ -6,6 +6,7 @@ extern "C" {
     pub fn r3_ps(p: f64, s: f64, out: *mut [f64; 10]) -> u8;
     pub fn r3_hs(h: f64, s: f64, out: *mut [f64; 10]) -> u8;
     pub fn r3_property(number: i32, t: f64, d: f64, out: *mut f64) -> u8;
+    pub fn r3_cp_w(t: f64, d: f64, cp: *mut f64, w: *mut f64, w_refusal: *mut u8) -> u8;
     pub fn r3_letter(p: f64, t: f64, letter: *mut u8) -> u8;
     pub fn r3_p_saturation(t: f64, out: *mut f64) -> u8;
     pub fn r3_t_saturation(p: f64, out: *mut f64) -> u8;

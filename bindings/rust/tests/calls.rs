@@ -40,6 +40,22 @@ fn properties_by_kind_and_by_number() {
 }
 
 #[test]
+fn cp_and_w_together_are_the_properties_asked_one_by_one() {
+    for i in 0..200 {
+        let (t, d) = (Kelvin(623.15 + 1.2 * f64::from(i)), KgPerM3(100.0 + 3.5 * f64::from(37 * i % 200)));
+        let both = cp_w(t, d);
+        assert_eq!(both.cp.map(|cp| cp.0), property(Property::OCP, t, d), "{t:?} {d:?}");
+        assert_eq!(both.w, property(Property::OW, t, d), "{t:?} {d:?}");
+    }
+    let both = cp_w(Kelvin(650.0), KgPerM3(500.0));
+    assert!(printed(both.cp.unwrap().0, 13.8935717, 9) && printed(both.w.unwrap(), 502.005554, 9));
+    let refused = |k| CpW { cp: Err(k), w: Err(k) };
+    assert_eq!(cp_w(Kelvin(f64::NAN), KgPerM3(99.0)), refused(Refusal::NotFinite));
+    assert_eq!(cp_w(Kelvin(900.0), KgPerM3(99.0)), refused(Refusal::First));
+    assert_eq!(cp_w(Kelvin(650.0), KgPerM3(99.0)), refused(Refusal::Second));
+}
+
+#[test]
 fn the_rules() {
     assert_eq!(power(2.0, -3), Ok(0.125));
     assert_eq!(power(2.0, i32::MIN), Err(Refusal::Second));

@@ -18,6 +18,7 @@ NUMBER(r3_exponential)
 
 r3_byte r3_power(double a, int n, double *out) { *out = a + n; return 8; }
 r3_byte r3_property(int number, double t, double d, double *out) { *out = number + t + d; return 8; }
+r3_byte r3_cp_w(double t, double d, double *cp, double *w, r3_byte *w_refusal) { *cp = t; *w = d; *w_refusal = 9; return 8; }
 r3_byte r3_letter(double p, double t, r3_byte *letter) { *letter = p < t ? 'g' : 'h'; return 8; }
 
 r3_byte r3_columns(

@@ -12,6 +12,7 @@ fn an_unknown_number_is_an_error() {
     assert_eq!(ps(p, s), Err(unknown));
     assert_eq!(hs(h, s), Err(unknown));
     assert_eq!(property(Property::OH, t, d), Err(unknown));
+    assert_eq!(cp_w(t, d), CpW { cp: Err(unknown), w: Err(Refusal::Other(9)) });
     assert_eq!(letter(p, t), Err(unknown));
     assert_eq!(p_saturation(Kelvin(640.0)), Err(unknown));
     assert_eq!(t_saturation(MPa(20.0)), Err(unknown));

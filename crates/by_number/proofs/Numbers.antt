@@ -11,8 +11,11 @@ use mir.Facts.{toZ-ofZ}
 use borrow.Author.Tests.{ne-eqb}
 use Rattle.common.specs.Outcome.{Outcome, refused, then}
 use Rattle.common.proofs.Arms.{Rest, NoneOf, none-of}
-use Rattle.properties.specs.Td.{Formula}
+use Rattle.properties.specs.Td.{Formula, Td2cp, Td2w}
+use Rattle.properties.specs.Together.{CpAndW}
+use Rattle.properties.proofs.Together.{cp-half, w-half}
 use Rattle.by_number.specs.Property.{Named, named, isNumber, properties, formulaIn, propertyRule, boxed, called}
+use Rattle.by_number.specs.Together.{cpAndWRule}
 
 -- the match goes by the number's bits
 pub numbered : {n : ℤ} {k : ℕ} → SFits w32 n → ofZ w32 n ≡ k → (t d : Float) → propertyRule n t d ≡ propertyRule (toZ w32 k) t d
@@ -38,3 +41,11 @@ unknown n t d p = sym (ap (λ (o : Outcome Formula). then o (λ f. called f t d)
 -- what an arm answers
 pub arm : (t d : Float) {p q a o : Outcome Float} → p ≡ boxed t d o → q ≡ boxed t d a → a ≡ o → q ≡ p
 arm t d number e h = e ∙ ap (boxed t d) h ∙ sym number
+
+-- what a half of the joint call answers is what its property does
+module _ (t d : Float) {p : Outcome Float} {r : CpAndW} where
+  pub arm-cp : p ≡ called Td2cp t d → r ≡ cpAndWRule t d → r .cp ≡ p
+  arm-cp number e = ap (λ (r : CpAndW). r .cp) e ∙ ap (boxed t d) (cp-half t d) ∙ sym number
+
+  pub arm-w : p ≡ called Td2w t d → r ≡ cpAndWRule t d → r .w ≡ p
+  arm-w number e = ap (λ (r : CpAndW). r .w) e ∙ ap (boxed t d) (w-half t d) ∙ sym number

@@ -1,8 +1,8 @@
 -- Each public contract admits one answer. The theorems are about the contracts' own readings, `Reads.Post`. Assumes nothing.
-use mathlib.Core.Path.{_≡_, refl, sym, ap, _∙_}
-use Rattle.common.specs.Outcome.{Outcome}
-use Rattle.common.specs.declared.Verdict.{Verdict}
-use Rattle.common.proofs.Same.{One, same-answer, same-verdict}
+use mathlib.Core.Path.{ap, _∙_}
+use Rattle.common.specs.declared.Answer.{Answer}
+use Rattle.properties.specs.Together.{CpAndW}
+use Rattle.common.proofs.Same.{One, same-answer}
 use Rattle.by_number.proofs.property.Td2p_reg3.Kinds as Td2p-reg3-kinds
 use Rattle.by_number.proofs.property.Td2p_reg3.Reads as Td2p-reg3
 use Rattle.by_number.proofs.property.Td2v_reg3.Kinds as Td2v-reg3-kinds
@@ -17,6 +17,8 @@ use Rattle.by_number.proofs.property.Td2u_reg3.Kinds as Td2u-reg3-kinds
 use Rattle.by_number.proofs.property.Td2u_reg3.Reads as Td2u-reg3
 use Rattle.by_number.proofs.property.Td2cp_reg3.Kinds as Td2cp-reg3-kinds
 use Rattle.by_number.proofs.property.Td2cp_reg3.Reads as Td2cp-reg3
+use Rattle.by_number.proofs.property.Td2cp_w_reg3.Kinds as Td2cp-w-reg3-kinds
+use Rattle.by_number.proofs.property.Td2cp_w_reg3.Reads as Td2cp-w-reg3
 use Rattle.by_number.proofs.property.Td2cv_reg3.Kinds as Td2cv-reg3-kinds
 use Rattle.by_number.proofs.property.Td2cv_reg3.Reads as Td2cv-reg3
 use Rattle.by_number.proofs.property.Td2w_reg3.Kinds as Td2w-reg3-kinds
@@ -76,6 +78,13 @@ Td2u-reg3-one κs a e x y p q = same-answer _ x y p q
 
 pub Td2cp-reg3-one : One 0 Td2cp-reg3-kinds.ps Td2cp-reg3-kinds.r Td2cp-reg3.Post
 Td2cp-reg3-one κs a e x y p q = same-answer _ x y p q
+
+-- half by half
+pub Td2cp-w-reg3-one : One 0 Td2cp-w-reg3-kinds.ps Td2cp-w-reg3-kinds.r Td2cp-w-reg3.Post
+Td2cp-w-reg3-one κs a e x y p q =
+    let cp = same-answer _ (x .cp) (y .cp) (ap (λ (r : CpAndW). r .cp) p) (ap (λ (r : CpAndW). r .cp) q) in
+    let w = same-answer _ (x .w) (y .w) (ap (λ (r : CpAndW). r .w) p) (ap (λ (r : CpAndW). r .w) q) in
+    ap (λ (cp : Answer). record { cp = cp; w = x .w }) cp ∙ ap (λ (w : Answer). record { cp = y .cp; w = w }) w
 
 pub Td2cv-reg3-one : One 0 Td2cv-reg3-kinds.ps Td2cv-reg3-kinds.r Td2cv-reg3.Post
 Td2cv-reg3-one κs a e x y p q = same-answer _ x y p q

@@ -1,4 +1,5 @@
-// The properties at a T and a d: each by itself, and by its number. The checks 1, 2, 3 come before a formula's own steps.
+// The properties at a T and a d: cp and w together, each by its number, and each by itself. The checks 1, 2, 3 come before a formula's own steps.
+use crate::CpW;
 use common::Answer;
 use common::Kelvin;
 use common::KgPerM3;
@@ -48,13 +49,12 @@ use extended::state_fu;
 use extended::state_ks;
 use extended::state_pc;
 use extended::state_z;
-use properties::raw_cp;
+use properties::raw_cp_w;
 use properties::raw_cv;
 use properties::raw_h;
 use properties::raw_s;
 use properties::raw_u;
 use properties::raw_v;
-use properties::raw_w;
 use properties::state_p;
 ghost use mathlib.Core.Path.{_≡_};
 ghost use Rattle.common.specs.Outcome.{check};
@@ -62,6 +62,7 @@ ghost use Rattle.common.specs.Answer.{paper};
 ghost use Rattle.properties.specs.Td.{Td2v, Td2h, Td2s, Td2u, Td2cv, Td2cp, Td2w, statePressure};
 ghost use Rattle.extended.specs.Ext.{Td2f, Td2g, Td2z, Td2ks, Td2kt, Td2ec, Td2joule, Td2iJTC, Td2pc, Td2dvdpct, Td2dpdtcv, Td2dvdtcp, Td2e, Td2batap, Td2fi, Td2fu, Td2alfap};
 ghost use Rattle.by_number.specs.Property.{boxed, called, propertyRule};
+ghost use Rattle.by_number.specs.Together.{paperCpW, cpAndWRule};
 
 // The checks of the call, then what its formula answers.
 fn answered(t: Kelvin, d: KgPerM3, a: Answer) -> Answer
@@ -80,6 +81,18 @@ fn settled(t: Kelvin, d: KgPerM3, x: f64) -> Answer
     answered(t, d, settle(x))
 }
 
+// Specific isobaric heat capacity, kJ/(kg K), and speed of sound, m/s, from one evaluation of the four sums that both need, each a value or a
+// refusal of its own: the checks of the call refuse both, a lost sum refuses both with 5, and a step of one's own refuses that one only.
+pub fn Td2cp_w_reg3(t: Kelvin, d: KgPerM3) -> CpW
+    ensures { λ r. ⌜ paperCpW r ≡ cpAndWRule (t .0) (d .0) ⌝ }
+{
+    let both = raw_cp_w(t, d);
+    CpW {
+        cp: settled(t, d, both.cp),
+        w: settled(t, d, both.w),
+    }
+}
+
 // A property by its number: 6 for any other number, before 1, 2, 3.
 pub fn Td_thermal_reg3(t: Kelvin, d: KgPerM3, o_id: i32) -> Answer
     ensures { λ r. ⌜ paper r ≡ propertyRule «o_id» (t .0) (d .0) ⌝ }
@@ -91,9 +104,9 @@ pub fn Td_thermal_reg3(t: Kelvin, d: KgPerM3, o_id: i32) -> Answer
         OS => settled(t, d, raw_s(t, d)),
         OE => settled(t, d, raw_e(t, d)),
         OU => settled(t, d, raw_u(t, d)),
-        OCP => settled(t, d, raw_cp(t, d)),
+        OCP => Td2cp_w_reg3(t, d).cp,
         OCV => settled(t, d, raw_cv(t, d)),
-        OW => settled(t, d, raw_w(t, d)),
+        OW => Td2cp_w_reg3(t, d).w,
         OKS => answered(t, d, state_ks(t, d)),
         OF => settled(t, d, raw_f(t, d)),
         OG => settled(t, d, raw_g(t, d)),

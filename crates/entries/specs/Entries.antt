@@ -18,6 +18,7 @@ use Rattle.volume.specs.declared.Phase.the-variants.{Liquid, Steam}
 use Rattle.volume.specs.Volumes.{pT2v-reg3Rule, pT2v-3subregRule, pT2v-sat-reg3Rule}
 use Rattle.backward.specs.Backward.{ph2T-reg3Rule, ph2v-reg3Rule, ps2T-reg3Rule, ps2v-reg3Rule, hs2p-reg3Rule}
 use Rattle.by_number.specs.Property.{propertyRule}
+use Rattle.by_number.specs.Together.{cpAndWRule}
 use Rattle.td_record.specs.Steps.{recordRule}
 use Rattle.record.specs.Record.{report}
 use Rattle.region3.specs.Entries.{pTRule, phRule, psRule, hsRule}
@@ -26,7 +27,7 @@ use Rattle.reply.specs.declared.Reply.{Reply}
 use Rattle.reply.specs.Shape.{numberReply, letterReply, recordReply}
 use Rattle.entries.specs.declared.Entry.{Entry}
 use Rattle.entries.specs.declared.Entry.the-variants as entry
-use Rattle.entries.specs.Named.{rowReply, unknown, placeOf, named}
+use Rattle.entries.specs.Named.{rowReply, cpWReply, unknown, placeOf, named}
 
 -- a boundary by its number
 abbrev pub boundaries : List Boundary
@@ -71,3 +72,4 @@ replyRule entry.PsRecord n a b = recordReply (report (psRule a b))
 replyRule entry.HsRecord n a b = recordReply (report (hsRule a b))
 replyRule entry.Property n a b = numberReply (propertyRule n a b)
 replyRule entry.ColumnRow n a b = rowReply (rowRule a b)
+replyRule entry.CpW n a b = cpWReply (cpAndWRule a b)

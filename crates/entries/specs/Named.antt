@@ -1,18 +1,24 @@
--- To believe: the reply of a row of the column run, and what a whole number names.
+-- To believe: the reply of a row of the column run and of cp and w together, and what a whole number names.
 use mathlib.Core.Bool.{cond}
 use Prim.Native.Nat.{ℕ, _^_}
 use mathlib.Core.List.{List, _∷_}
 use lib.Dec.{ltb}
 use lib.IntN.{ℤ, pos, negsuc}
 use lib.ListN.{length, getD, replicate}
-use Rattle.common.specs.Outcome.{zeroF}
+use Rattle.common.specs.Outcome.{numberIn, valueIn, zeroF}
+use Rattle.properties.specs.Together.{CpAndW}
 use Rattle.column_run.specs.declared.Line.{Line}
 use Rattle.reply.specs.declared.Reply.{Reply}
 use Rattle.reply.specs.Shape.{refusedBy}
 
 -- a row of the column run: its letter, and the density in the first place
 abbrev pub rowReply : Line → Reply
-rowReply l = record { refusal = l .refusal; letter = l .letter; numbers = l .density ∷ replicate 9 zeroF }
+rowReply l = record { refusal = l .refusal; letter = l .letter; beside = 0; numbers = l .density ∷ replicate 9 zeroF }
+
+-- cp and w together: cp in the first place and w in the second, and w's refusal beside cp's
+abbrev pub cpWReply : CpAndW → Reply
+cpWReply a =
+    record { refusal = numberIn (a .cp); letter = 0; beside = numberIn (a .w); numbers = valueIn (a .cp) ∷ valueIn (a .w) ∷ replicate 8 zeroF }
 
 -- no such entry, boundary, letter or phase
 abbrev pub unknown : Reply

@@ -3,15 +3,15 @@ use Prim.Native.Nat.{ℕ}
 use mathlib.Core.List.{List, [], _∷_}
 use lib.ListN.{getD}
 use Rattle.entries.specs.declared.Entry.{Entry}
-use Rattle.entries.specs.declared.Entry.the-variants.{Unnamed, Power, Root, Logarithm, Exponential, PSaturation, TSaturation, Boundary, Letter, LetterVolume, Volume, PhaseVolume, PhT, PhV, PsT, PsV, HsP, TdRecord, PtRecord, PhRecord, PsRecord, HsRecord, Property, ColumnRow}
+use Rattle.entries.specs.declared.Entry.the-variants.{Unnamed, Power, Root, Logarithm, Exponential, PSaturation, TSaturation, Boundary, Letter, LetterVolume, Volume, PhaseVolume, PhT, PhV, PsT, PsV, HsP, TdRecord, PtRecord, PhRecord, PsRecord, HsRecord, Property, ColumnRow, CpW}
 
--- 0 to 30
+-- 0 to 34
 abbrev pub numbered : List Entry
 numbered =
     Unnamed ∷ Power ∷ Root ∷ Logarithm ∷ Exponential ∷ PSaturation ∷ TSaturation ∷ Boundary ∷ Letter ∷ LetterVolume
     ∷ Volume ∷ PhaseVolume ∷ PhT ∷ PhV ∷ PsT ∷ PsV ∷ HsP ∷ Unnamed ∷ Unnamed ∷ Unnamed
     ∷ TdRecord ∷ PtRecord ∷ PhRecord ∷ PsRecord ∷ HsRecord ∷ Property ∷ Unnamed ∷ Unnamed ∷ Unnamed ∷ Unnamed
-    ∷ ColumnRow ∷ []
+    ∷ ColumnRow ∷ Unnamed ∷ Unnamed ∷ Unnamed ∷ CpW ∷ []
 
 -- past the list there is none
 unfoldable pub entryOf : ℕ → Entry

@@ -1,6 +1,7 @@
 // What each entry answers: a call of the library, and its answer's shape. Before it the three whose whole number names something.
 use crate::Entry;
 use crate::shape::UNKNOWN;
+use crate::shape::cp_w_reply;
 use crate::shape::place;
 use crate::shape::row_reply;
 use boundary::Boundary;
@@ -107,5 +108,6 @@ pub fn answer(entry: Entry, n: i32, a: f64, b: f64) -> Reply
         Entry::HsRecord => record_reply(region3::hs_reg3(blank(), KJPerKg(a), KJPerKgK(b))),
         Entry::Property => number_reply(by_number::Td_thermal_reg3(Kelvin(a), KgPerM3(b), n)),
         Entry::ColumnRow => row_reply(column_run::row(MPa(a), Kelvin(b))),
+        Entry::CpW => cp_w_reply(by_number::Td2cp_w_reg3(Kelvin(a), KgPerM3(b))),
     }
 }

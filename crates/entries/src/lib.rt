@@ -36,4 +36,5 @@ pub enum Entry {
     HsRecord,
     Property,
     ColumnRow,
+    CpW,
 }

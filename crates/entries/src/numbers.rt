@@ -3,12 +3,12 @@ use crate::Entry;
 ghost use mathlib.Core.Path.{_≡_};
 ghost use Rattle.entries.specs.Numbers.{entryOf};
 
-// No entry has 0, 17 to 19, 26 to 29, or a number above 30.
+// No entry has 0, 17 to 19, 26 to 29, 31 to 33, or a number above 34.
 pub fn entry_of(number: u8) -> Entry
     ensures { λ r. ⌜ r ≡ entryOf number ⌝ }
 {
     let k = number as usize;
-    if k < 31 {
+    if k < 35 {
         let entries = [
             Entry::Unnamed,
             Entry::Power,
@@ -41,6 +41,10 @@ pub fn entry_of(number: u8) -> Entry
             Entry::Unnamed,
             Entry::Unnamed,
             Entry::ColumnRow,
+            Entry::Unnamed,
+            Entry::Unnamed,
+            Entry::Unnamed,
+            Entry::CpW,
         ];
         return entries[k];
     }

@@ -1,8 +1,11 @@
-// What the entries add to the shapes of a reply: a row of the column run, and what a whole number names.
+// What the entries add to the shapes of a reply: a row of the column run, cp and w together, and what a whole number names.
+use by_number::CpW;
 use column_run::Line;
 use reply::Reply;
+use reply::number_reply;
 ghost use mathlib.Core.Path.{_≡_};
-ghost use Rattle.entries.specs.Named.{rowReply, placeOf};
+ghost use Rattle.by_number.specs.Together.{paperCpW};
+ghost use Rattle.entries.specs.Named.{rowReply, cpWReply, placeOf};
 
 // The refusal of an entry, a boundary, a letter or a phase that does not exist.
 pub const UNKNOWN: u8 = 255;
@@ -13,7 +16,26 @@ pub fn row_reply(l: Line) -> Reply
     Reply {
         refusal: l.refusal,
         letter: l.letter,
+        beside: 0,
         numbers: [l.density, 0.0, 0.0, 0.0, 0.0, 0.0, 0.0, 0.0, 0.0, 0.0],
+    }
+}
+
+// cp first, and w's refusal beside cp's.
+pub fn cp_w_reply(a: CpW) -> Reply
+    ensures { λ r. ⌜ r ≡ cpWReply (paperCpW a) ⌝ }
+{
+    let cp = a.cp;
+    let w = a.w;
+    let first = number_reply(cp);
+    let second = number_reply(w);
+    let xs = first.numbers;
+    let ys = second.numbers;
+    Reply {
+        refusal: first.refusal,
+        letter: 0,
+        beside: second.refusal as u32,
+        numbers: [xs[0], ys[0], 0.0, 0.0, 0.0, 0.0, 0.0, 0.0, 0.0, 0.0],
     }
 }
 

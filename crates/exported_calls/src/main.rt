@@ -31,6 +31,7 @@ fn call_number(entry: u8, n: i32, a: f64, b: f64) -> Reply {
     Reply {
         refusal,
         letter: 0,
+        beside: 0,
         numbers: [x, 0.0, 0.0, 0.0, 0.0, 0.0, 0.0, 0.0, 0.0, 0.0],
     }
 }
@@ -42,7 +43,22 @@ fn call_letter(a: f64, b: f64) -> Reply {
     Reply {
         refusal,
         letter,
+        beside: 0,
         numbers,
+    }
+}
+
+// cp and w: w's refusal stands beside cp's.
+fn call_cp_w(a: f64, b: f64) -> Reply {
+    let mut cp = FOUND;
+    let mut w = FOUND;
+    let mut beside = FOUND_BYTE;
+    let refusal = region3_c::r3_cp_w(a, b, &mut cp, &mut w, &mut beside);
+    Reply {
+        refusal,
+        letter: 0,
+        beside: beside as u32,
+        numbers: [cp, w, 0.0, 0.0, 0.0, 0.0, 0.0, 0.0, 0.0, 0.0],
     }
 }
 
@@ -59,6 +75,7 @@ fn call_record(entry: u8, a: f64, b: f64) -> Reply {
     Reply {
         refusal,
         letter: 0,
+        beside: 0,
         numbers,
     }
 }
@@ -74,6 +91,7 @@ fn call_column(a: f64, b: f64) -> Reply {
     Reply {
         refusal: if verdict == 0 { refusals[0] } else { verdict },
         letter: letters[0],
+        beside: 0,
         numbers: [densities[0], 0.0, 0.0, 0.0, 0.0, 0.0, 0.0, 0.0, 0.0, 0.0],
     }
 }
@@ -83,6 +101,7 @@ fn call(entry: u8, n: i32, a: f64, b: f64) -> Reply {
         8 => call_letter(a, b),
         20 | 21 | 22 | 23 | 24 => call_record(entry, a, b),
         30 => call_column(a, b),
+        34 => call_cp_w(a, b),
         _ => call_number(entry, n, a, b),
     }
 }
@@ -120,9 +139,9 @@ fn judge_file(fd: i32, rows: &mut [u64], differ: &mut [u64]) -> Tally {
     t
 }
 
-fn say_entries(rows: &[u64; 31], differ: &[u64; 31]) {
+fn say_entries(rows: &[u64; 35], differ: &[u64; 35]) {
     let mut e = 0;
-    while e < 31 {
+    while e < 35 {
         if rows[e] > 0 {
             say_number(b"entry ", e as u64);
             say_counts(rows[e], differ[e]);
@@ -151,8 +170,8 @@ fn main() {
         say(b"not read\n");
         return;
     }
-    let mut rows = [0u64; 31];
-    let mut differ = [0u64; 31];
+    let mut rows = [0u64; 35];
+    let mut differ = [0u64; 35];
     let t = judge_file(fd, &mut rows, &mut differ);
     libc::close(fd);
     say_entries(&rows, &differ);

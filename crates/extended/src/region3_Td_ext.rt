@@ -18,10 +18,9 @@ use helmholtz::phi_tau_reg3;
 use helmholtz::phi_tautau_reg3;
 use properties::delta_of;
 use properties::lost_or;
-use properties::raw_cp;
+use properties::raw_cp_w;
 use properties::raw_p;
 use properties::raw_v;
-use properties::raw_w;
 use properties::tau_of;
 use record::settle_p;
 use rules::raw_exponential;
@@ -122,11 +121,12 @@ pub fn raw_joule(t: Kelvin, d: KgPerM3) -> f64
     finite_or_nan(1000.0 * over(v, cp) * (t.0 * cex - 1.0))
 }
 
-// OIJTC, the isothermal throttling coefficient.
+// OIJTC, the isothermal throttling coefficient: cp's half of the joint operation.
 pub fn raw_iJTC(t: Kelvin, d: KgPerM3) -> f64
     ensures { λ r. ⌜ Number (Td2iJTC (check (t .0)) (check (d .0))) r ⌝ }
 {
-    finite_or_nan(-raw_cp(t, d) * raw_joule(t, d) / 1000.0)
+    let both = raw_cp_w(t, d);
+    finite_or_nan(-both.cp * raw_joule(t, d) / 1000.0)
 }
 
 // OE, the specific exergy, kJ/kg.
@@ -171,11 +171,12 @@ pub fn state_z(t: Kelvin, d: KgPerM3) -> Answer
     with_tested_p(lost_or(v, p), over(1000.0 * p * v / RGAS_WATER, t.0))
 }
 
-// OKS, the isentropic exponent: w, then p.
+// OKS, the isentropic exponent: w's half of the joint operation, then p.
 pub fn state_ks(t: Kelvin, d: KgPerM3) -> Answer
     ensures { λ r. ⌜ paper r ≡ Td2ks (check (t .0)) (check (d .0)) ⌝ }
 {
-    let w = raw_w(t, d);
+    let both = raw_cp_w(t, d);
+    let w = both.w;
     let p = raw_p(t, d);
     with_tested_p(lost_or(w, p), over(1.0e-6 * w * w * d.0, p))
 }

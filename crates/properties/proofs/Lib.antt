@@ -1,3 +1,6 @@
 pub mod Printed
 pub mod Published
+pub mod Together
+pub mod Apart
+mod Worked
 pub mod Unique

@@ -1,5 +1,6 @@
 -- Each contract admits one answer. The theorems are about the contracts' own readings, `Reads.Post`.
-use mathlib.Core.Path.{sym, _∙_}
+use mathlib.Core.Path.{sym, ap, _∙_}
+use lib.Ieee.{Float}
 use Rattle.common.proofs.Same.{One, same-answer}
 use Rattle.helmholtz.proofs.Numbers.{one-number}
 use Rattle.properties.proofs.lost.lost_or.Kinds as lost-or-kinds
@@ -18,12 +19,10 @@ use Rattle.properties.proofs.region3_Td.raw_s.Kinds as raw-s-kinds
 use Rattle.properties.proofs.region3_Td.raw_s.Reads as raw-s
 use Rattle.properties.proofs.region3_Td.raw_h.Kinds as raw-h-kinds
 use Rattle.properties.proofs.region3_Td.raw_h.Reads as raw-h
-use Rattle.properties.proofs.region3_Td.raw_cp.Kinds as raw-cp-kinds
-use Rattle.properties.proofs.region3_Td.raw_cp.Reads as raw-cp
+use Rattle.properties.proofs.region3_Td.raw_cp_w.Kinds as raw-cp-w-kinds
+use Rattle.properties.proofs.region3_Td.raw_cp_w.Reads as raw-cp-w
 use Rattle.properties.proofs.region3_Td.raw_cv.Kinds as raw-cv-kinds
 use Rattle.properties.proofs.region3_Td.raw_cv.Reads as raw-cv
-use Rattle.properties.proofs.region3_Td.raw_w.Kinds as raw-w-kinds
-use Rattle.properties.proofs.region3_Td.raw_w.Reads as raw-w
 use Rattle.properties.proofs.region3_Td.state_p.Kinds as state-p-kinds
 use Rattle.properties.proofs.region3_Td.state_p.Reads as state-p
 
@@ -51,14 +50,13 @@ raw-s-one κs a e x y p q = one-number p q
 pub raw-h-one : One 0 raw-h-kinds.ps raw-h-kinds.r raw-h.Post
 raw-h-one κs a e x y p q = one-number p q
 
-pub raw-cp-one : One 0 raw-cp-kinds.ps raw-cp-kinds.r raw-cp.Post
-raw-cp-one κs a e x y p q = one-number p q
-
 pub raw-cv-one : One 0 raw-cv-kinds.ps raw-cv-kinds.r raw-cv.Post
 raw-cv-one κs a e x y p q = one-number p q
 
-pub raw-w-one : One 0 raw-w-kinds.ps raw-w-kinds.r raw-w.Post
-raw-w-one κs a e x y p q = one-number p q
+-- half by half
+pub raw-cp-w-one : One 0 raw-cp-w-kinds.ps raw-cp-w-kinds.r raw-cp-w.Post
+raw-cp-w-one κs a e x y p q =
+    ap (λ (cp : Float). record { cp = cp; w = x .w }) (one-number (p .0) (q .0)) ∙ ap (λ (w : Float). record { cp = y .cp; w = w }) (one-number (p .1) (q .1))
 
 pub state-p-one : One 0 state-p-kinds.ps state-p-kinds.r state-p.Post
 state-p-one κs a e x y p q = same-answer _ x y p q

@@ -61,25 +61,43 @@ Td2cv T d =
     let τ = inverseTemperature T in
     R ⊗ (minusOf τ ⊗ τ ⊗ phi-tautau δ τ)
 
+-- what the four joint sums come to, from which cp and w are worked
+pub record Sums : Type 0 where
+  pub delta : Outcome Float
+  pub deltadelta : Outcome Float
+  pub deltatau : Outcome Float
+  pub tautau : Outcome Float
+
+abbrev pub sums : Outcome Float → Outcome Float → Sums
+sums δ τ = record { delta = four-delta δ τ; deltadelta = four-deltadelta δ τ; deltatau = four-deltatau δ τ; tautau = four-tautau δ τ }
+
+-- the steps of cp over any four sums
+abbrev pub cpOver : Sums → Outcome Float → Outcome Float → Outcome Float
+cpOver φ δ τ =
+    let a = δ ⊗ (φ .delta ⊖ τ ⊗ φ .deltatau) in
+    let b = δ ⊗ (value (whole 2) ⊗ φ .delta ⊕ δ ⊗ φ .deltadelta) in
+    R ⊗ (minusOf τ ⊗ τ ⊗ φ .tautau ⊕ a ⊗ a ⊘ b)
+
+-- the steps of w over any four sums, at a temperature
+abbrev pub wOver : Outcome Float → Sums → Outcome Float → Outcome Float → Outcome Float
+wOver T φ δ τ =
+    let a = δ ⊗ φ .delta ⊖ δ ⊗ τ ⊗ φ .deltatau in
+    let b = value (whole 2) ⊗ δ ⊗ φ .delta ⊕ δ ⊗ δ ⊗ φ .deltadelta in
+    rootOf (value (whole 1000) ⊗ R ⊗ T ⊗ (b ⊖ a ⊗ a ⊘ (τ ⊗ τ ⊗ φ .tautau)))
+
 -- specific isobaric heat capacity, kJ/(kg K)
 unfoldable pub Td2cp : Formula
 Td2cp T d =
     let δ = reducedDensity d in
     let τ = inverseTemperature T in
-    let φδ = four-delta δ τ in
-    let a = δ ⊗ (φδ ⊖ τ ⊗ four-deltatau δ τ) in
-    let b = δ ⊗ (value (whole 2) ⊗ φδ ⊕ δ ⊗ four-deltadelta δ τ) in
-    R ⊗ (minusOf τ ⊗ τ ⊗ four-tautau δ τ ⊕ a ⊗ a ⊘ b)
+    cpOver (sums δ τ) δ τ
 
 -- speed of sound, m/s
 unfoldable pub Td2w : Formula
 Td2w T d =
     let δ = reducedDensity d in
     let τ = inverseTemperature T in
-    let φδ = four-delta δ τ in
-    let a = δ ⊗ φδ ⊖ δ ⊗ τ ⊗ four-deltatau δ τ in
-    let b = value (whole 2) ⊗ δ ⊗ φδ ⊕ δ ⊗ δ ⊗ four-deltadelta δ τ in
-    rootOf (value (whole 1000) ⊗ R ⊗ T ⊗ (b ⊖ a ⊗ a ⊘ (τ ⊗ τ ⊗ four-tautau δ τ)))
+    wOver T (sums δ τ) δ τ
 
 -- the p that a call works out: 4 where it lies outside its range
 unfoldable pub statePressure : Formula

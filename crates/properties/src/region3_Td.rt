@@ -1,5 +1,6 @@
 // The properties from T and d: R7-97(2012), table 31. First the reduced variables, then the eight properties, each raw: its number, or a NaN
-// where a step of it is lost. Last the p of a state, which is range-tested.
+// where a step of it is lost; cp and w come together. Last the p of a state, which is range-tested.
+use crate::RawCpW;
 use common::Answer;
 use common::DC_WATER;
 use common::Kelvin;
@@ -8,6 +9,7 @@ use common::MPa;
 use common::RGAS_WATER;
 use common::TC_WATER;
 use common::over;
+use helmholtz::Slopes;
 use helmholtz::finite_or_nan;
 use helmholtz::phi_delta_reg3;
 use helmholtz::phi_tau_reg3;
@@ -21,7 +23,8 @@ ghost use mathlib.Core.Path.{_≡_};
 ghost use Rattle.common.specs.Outcome.{check};
 ghost use Rattle.common.specs.Answer.{paper};
 ghost use Rattle.helmholtz.specs.Number.{Number};
-ghost use Rattle.properties.specs.Td.{reducedDensity, inverseTemperature, Td2v, Td2p, Td2h, Td2s, Td2u, Td2cv, Td2cp, Td2w, statePressure};
+ghost use Rattle.properties.specs.Td.{reducedDensity, inverseTemperature, Td2v, Td2p, Td2h, Td2s, Td2u, Td2cv, cpOver, wOver, statePressure};
+ghost use Rattle.properties.specs.Together.{checked, Td2cp-w};
 
 // τ = T*/T
 pub fn tau_of(t: Kelvin) -> f64
@@ -82,18 +85,6 @@ pub fn raw_h(t: Kelvin, d: KgPerM3) -> f64
     finite_or_nan(RGAS_WATER * t.0 * (tau * joint.tau + delta * joint.delta))
 }
 
-// Specific isobaric heat capacity, kJ/(kg K).
-pub fn raw_cp(t: Kelvin, d: KgPerM3) -> f64
-    ensures { λ r. ⌜ Number (Td2cp (check (t .0)) (check (d .0))) r ⌝ }
-{
-    let tau = tau_of(t);
-    let delta = delta_of(d);
-    let phi = polys_i_ii_ij_jj_powi_reg3(delta, tau);
-    let a = delta * (phi.delta - tau * phi.deltatau);
-    let b = delta * (2.0 * phi.delta + delta * phi.deltadelta);
-    finite_or_nan(RGAS_WATER * (-tau * tau * phi.tautau + over(a * a, b)))
-}
-
 // Specific isochoric heat capacity, kJ/(kg K).
 pub fn raw_cv(t: Kelvin, d: KgPerM3) -> f64
     ensures { λ r. ⌜ Number (Td2cv (check (t .0)) (check (d .0))) r ⌝ }
@@ -103,13 +94,19 @@ pub fn raw_cv(t: Kelvin, d: KgPerM3) -> f64
     finite_or_nan(RGAS_WATER * (-tau * tau * phi_tautau_reg3(delta, tau)))
 }
 
-// Speed of sound, m/s.
-pub fn raw_w(t: Kelvin, d: KgPerM3) -> f64
-    ensures { λ r. ⌜ Number (Td2w (check (t .0)) (check (d .0))) r ⌝ }
+// Specific isobaric heat capacity, kJ/(kg K), over any four sums.
+fn cp_over(delta: f64, tau: f64, phi: Slopes) -> f64
+    ensures { λ r. ⌜ Number (cpOver (checked phi) (check delta) (check tau)) r ⌝ }
 {
-    let tau = tau_of(t);
-    let delta = delta_of(d);
-    let phi = polys_i_ii_ij_jj_powi_reg3(delta, tau);
+    let a = delta * (phi.delta - tau * phi.deltatau);
+    let b = delta * (2.0 * phi.delta + delta * phi.deltadelta);
+    finite_or_nan(RGAS_WATER * (-tau * tau * phi.tautau + over(a * a, b)))
+}
+
+// Speed of sound, m/s, over any four sums.
+fn w_over(t: Kelvin, delta: f64, tau: f64, phi: Slopes) -> f64
+    ensures { λ r. ⌜ Number (wOver (check (t .0)) (checked phi) (check delta) (check tau)) r ⌝ }
+{
     let a = delta * phi.delta - delta * tau * phi.deltatau;
     let below = tau * tau * phi.tautau;
     finite_or_nan(raw_root(
@@ -118,6 +115,19 @@ pub fn raw_w(t: Kelvin, d: KgPerM3) -> f64
             * t.0
             * (2.0 * delta * phi.delta + delta * delta * phi.deltadelta - over(a * a, below)),
     ))
+}
+
+// The specific isobaric heat capacity, kJ/(kg K), and the speed of sound, m/s, from one evaluation of the four sums that both need. The two
+// have nothing else in common: each squares a number of its own.
+pub fn raw_cp_w(t: Kelvin, d: KgPerM3) -> RawCpW
+    ensures { λ r. ⌜ Number (Td2cp-w (check (t .0)) (check (d .0)) .cp) (r .cp) × Number (Td2cp-w (check (t .0)) (check (d .0)) .w) (r .w) ⌝ }
+{
+    let tau = tau_of(t);
+    let delta = delta_of(d);
+    let phi = polys_i_ii_ij_jj_powi_reg3(delta, tau);
+    let cp = cp_over(delta, tau, phi);
+    let w = w_over(t, delta, tau, phi);
+    RawCpW { cp, w }
 }
 
 // The p of a state that a call works out, MPa: 4 where it lies outside its range.

@@ -10,6 +10,7 @@ use Rattle.rules.specs.Log.{logarithmRule}
 use Rattle.rules.specs.Exp.{exponentialRule}
 use Rattle.r4.specs.Saturation.{p-saturationRule, T-saturationRule}
 use Rattle.boundary.specs.Choice.{letterRule}
+use Rattle.by_number.specs.Together.{cpAndWRule}
 use Rattle.record.specs.Record.{report}
 use Rattle.td_record.specs.Steps.{recordRule}
 use Rattle.region3.specs.Entries.{pTRule, phRule, psRule, hsRule}
@@ -25,6 +26,8 @@ use Rattle.region3_c.proofs.r3_p_saturation.Kinds as p-saturation-kinds
 use Rattle.region3_c.proofs.r3_p_saturation.Reads as p-saturation
 use Rattle.region3_c.proofs.r3_t_saturation.Kinds as t-saturation-kinds
 use Rattle.region3_c.proofs.r3_t_saturation.Reads as t-saturation
+use Rattle.region3_c.proofs.r3_cp_w.Kinds as cp-w-kinds
+use Rattle.region3_c.proofs.r3_cp_w.Reads as cp-w
 use Rattle.region3_c.proofs.r3_letter.Kinds as letter-kinds
 use Rattle.region3_c.proofs.r3_letter.Reads as letter
 use Rattle.region3_c.proofs.r3_td.Kinds as td-kinds
@@ -59,6 +62,10 @@ p-saturation-says κs a e x p = p
 pub t-saturation-says : (κs : Lfts 1) (a : Dens κs t-saturation-kinds.ps) (e : AtExit (endedOf 1 t-saturation-kinds.ps t-saturation-kinds.r) κs) (x : resT t-saturation-kinds.r κs .Denot) → t-saturation.Post κs a x e
     → Exported (T-saturationRule (a .0)) x (now (e .1 .0))
 t-saturation-says κs a e x p = p
+
+pub cp-w-says : (κs : Lfts 3) (a : Dens κs cp-w-kinds.ps) (e : AtExit (endedOf 3 cp-w-kinds.ps cp-w-kinds.r) κs) (x : resT cp-w-kinds.r κs .Denot) → cp-w.Post κs a x e
+    → Exported (cpAndWRule (a .0) (a .1 .0) .cp) x (now (e .1 .1 .0)) × Exported (cpAndWRule (a .0) (a .1 .0) .w) (now (e .1 .1 .1 .1 .0)) (now (e .1 .1 .1 .0))
+cp-w-says κs a e x p = p
 
 pub letter-says : (κs : Lfts 1) (a : Dens κs letter-kinds.ps) (e : AtExit (endedOf 1 letter-kinds.ps letter-kinds.r) κs) (x : resT letter-kinds.r κs .Denot) → letter.Post κs a x e
     → ExportedLetter (letterRule (a .0) (a .1 .0)) x (now (e .1 .1 .0))

@@ -8,7 +8,10 @@ use lib.Ieee.{Float}
 use Rattle.common.specs.Outcome.{Outcome, numberIn}
 use Rattle.record.specs.declared.Record.{Record}
 use Rattle.column_run.specs.Columns.{Lent, lent}
-use Rattle.region3_c.specs.Exported.{ExportedRecord, ExportedColumns, lentRecord}
+use Rattle.region3_c.specs.Exported.{Exported, ExportedRecord, ExportedColumns, lentRecord}
+
+pub exported-number : {o q : Outcome Float} (k : ℕ) (x : Float) → o ≡ q → Exported o k x → Exported q k x
+exported-number k x e h = subst (λ (o : Outcome Float). Exported o k x) e h
 
 pub exported-record : {s q : Outcome Unit × Record} (k : ℕ) (l : List Float) → s ≡ q → ExportedRecord s k l → ExportedRecord q k l
 exported-record k l e h = subst (λ (s : Outcome Unit × Record). ExportedRecord s k l) e h

@@ -23,6 +23,8 @@ use Rattle.region3_c.proofs.r3_t_saturation.Kinds as t-saturation-kinds
 use Rattle.region3_c.proofs.r3_t_saturation.Reads as t-saturation
 use Rattle.region3_c.proofs.r3_property.Kinds as property-kinds
 use Rattle.region3_c.proofs.r3_property.Reads as property
+use Rattle.region3_c.proofs.r3_cp_w.Kinds as cp-w-kinds
+use Rattle.region3_c.proofs.r3_cp_w.Reads as cp-w
 use Rattle.region3_c.proofs.r3_letter.Kinds as letter-kinds
 use Rattle.region3_c.proofs.r3_letter.Reads as letter
 use Rattle.region3_c.proofs.r3_td.Kinds as td-kinds
@@ -67,6 +69,14 @@ t-saturation-one κs a d e x y p q = both p q
 
 pub property-one : OneBehind 1 property-kinds.ps property-kinds.r property.Post Float (λ κs d. now (d .1 .1 .1 .0))
 property-one κs a d e x y p q = both p q
+
+-- both numbers, and w's refusal
+pub cp-w-one : (κs : Lfts 3) (a : Dens κs cp-w-kinds.ps) (d e : AtExit (endedOf 3 cp-w-kinds.ps cp-w-kinds.r) κs) (x y : resT cp-w-kinds.r κs .Denot) → cp-w.Post κs a x d → cp-w.Post κs a y e
+    → (x ≡ y) × (now (d .1 .1 .0) ≡ now (e .1 .1 .0)) × (now (d .1 .1 .1 .0) ≡ now (e .1 .1 .1 .0)) × (now (d .1 .1 .1 .1 .0) ≡ now (e .1 .1 .1 .1 .0))
+cp-w-one κs a d e x y p q =
+    let cp = both (p .0) (q .0) in
+    let w = both (p .1) (q .1) in
+    (cp .0, cp .1, w .1, w .0)
 
 pub letter-one : OneBehind 1 letter-kinds.ps letter-kinds.r letter.Post ℕ (λ κs d. now (d .1 .1 .0))
 letter-one κs a d e x y p q = both p q

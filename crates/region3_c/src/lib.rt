@@ -1,10 +1,12 @@
 // The library for callers in C and Rust. A call returns the refusal's number, 0 where it is accepted, and writes what it answers through a
 // pointer (specs/Exported.antt). The caller's ten numbers go in as his record and come back replaced or zeroed. The units and the numbers of the
-// refusals are in bindings/c/region3.h. In this order: the four rules, the saturation line, a property, the letter, the five records, the columns.
+// refusals are in bindings/c/region3.h. In this order: the four rules, the saturation line, a property, cp and w together, the letter, the five
+// records, the columns.
 mod exported;
 
 use boundary::sub_region3_pT;
 use by_number::Td_thermal_reg3;
+use by_number::Td2cp_w_reg3;
 use column_run::columns;
 use common::KJPerKg;
 use common::KJPerKgK;
@@ -34,6 +36,7 @@ ghost use Rattle.rules.specs.Exp.{exponentialRule};
 ghost use Rattle.r4.specs.Saturation.{p-saturationRule, T-saturationRule};
 ghost use Rattle.boundary.specs.Choice.{letterRule};
 ghost use Rattle.by_number.specs.Property.{propertyRule};
+ghost use Rattle.by_number.specs.Together.{cpAndWRule};
 ghost use Rattle.record.specs.Record.{report};
 ghost use Rattle.td_record.specs.Steps.{recordRule};
 ghost use Rattle.region3.specs.Entries.{pTRule, phRule, psRule, hsRule};
@@ -87,6 +90,18 @@ pub extern "C" fn r3_property(number: i32, t: f64, d: f64, out: &mut f64) -> u8
     ensures { λ r. ⌜ Exported (propertyRule number t d) r (now (out .exit)) ⌝ }
 {
     exported(Td_thermal_reg3(Kelvin(t), KgPerM3(d), number), out)
+}
+
+// cp and w of one evaluation: returns cp's refusal, and writes w's.
+#[no_mangle]
+pub extern "C" fn r3_cp_w(t: f64, d: f64, cp: &mut f64, w: &mut f64, w_refusal: &mut u8) -> u8
+    ensures { λ r. ⌜ Exported (cpAndWRule t d .cp) r (now (cp .exit)) × Exported (cpAndWRule t d .w) (now («w_refusal» .exit)) (now (w .exit)) ⌝ }
+{
+    let both = Td2cp_w_reg3(Kelvin(t), KgPerM3(d));
+    let first = both.cp;
+    let second = both.w;
+    *w_refusal = exported(second, w);
+    exported(first, cp)
 }
 
 #[no_mangle]

@@ -1,5 +1,5 @@
 -- To believe: the 88 bytes of a reply; which stored answers agree with it.
-use Prim.Native.Nat.{ℕ, zero, suc, _+_}
+use Prim.Native.Nat.{ℕ, zero, suc, _+_, _/_, _%_, _^_}
 use mathlib.Core.Bool.{Bool, true, _&&_}
 use mathlib.Core.List.{List, [], _∷_, _++_}
 use lib.Dec.{eqb}
@@ -12,10 +12,17 @@ use Rattle.reply.specs.declared.Reply.{Reply}
 abbrev pub numberBytes : List Float → ℕ → List ℕ
 numberBytes xs k = eight (toBits binary64 (getD xs k nan))
 
--- byte 0 the refusal, byte 1 the letter or 0, bytes 2 to 7 zero, then the ten numbers
+-- the four bytes of a number below 2^32
+abbrev pub four : ℕ → List ℕ
+four n = n % 256 ∷ n / 2 ^ 8 % 256 ∷ n / 2 ^ 16 % 256 ∷ n / 2 ^ 24 % 256 ∷ []
+
+-- byte 0 the refusal, byte 1 the letter or 0, bytes 2 and 3 zero, bytes 4 to 7 what stands beside
+abbrev pub headBytes : ℕ → ℕ → ℕ → List ℕ
+headBytes refusal letter beside = (refusal ∷ letter ∷ 0 ∷ 0 ∷ []) ++ four beside
+
+-- then the ten numbers
 unfoldable pub replyBytes : Reply → List ℕ
-replyBytes r =
-    (r .refusal ∷ r .letter ∷ 0 ∷ 0 ∷ 0 ∷ 0 ∷ 0 ∷ 0 ∷ []) ++ joined (numberBytes (r .numbers)) 10
+replyBytes r = headBytes (r .refusal) (r .letter) (r .beside) ++ joined (numberBytes (r .numbers)) 10
 
 -- a test passes at each number below n
 unfoldable pub below : (ℕ → Bool) → ℕ → Bool

@@ -12,21 +12,21 @@ use Rattle.record.specs.declared.Record.{Record}
 use Rattle.record.specs.Record.{fieldsOf}
 use Rattle.reply.specs.declared.Reply.{Reply}
 
--- a call that is refused: no letter, and +0.0 in every place
+-- a call that is refused: no letter, nothing beside, and +0.0 in every place
 abbrev pub refusedBy : ℕ → Reply
-refusedBy k = record { refusal = k; letter = 0; numbers = replicate 10 zeroF }
+refusedBy k = record { refusal = k; letter = 0; beside = 0; numbers = replicate 10 zeroF }
 
 -- a call for one number has it in the first place, and +0.0 in the others
 abbrev pub numberReply : Outcome Float → Reply
-numberReply o = record { refusal = numberIn o; letter = 0; numbers = valueIn o ∷ replicate 9 zeroF }
+numberReply o = record { refusal = numberIn o; letter = 0; beside = 0; numbers = valueIn o ∷ replicate 9 zeroF }
 
 -- a call for a letter has no number
 abbrev pub letterReply : Outcome Letter → Reply
-letterReply o = record { refusal = numberIn o; letter = byteIn o; numbers = replicate 10 zeroF }
+letterReply o = record { refusal = numberIn o; letter = byteIn o; beside = 0; numbers = replicate 10 zeroF }
 
 -- a call for a record has its fields in their order
 abbrev pub recordReply : Outcome Unit × Record → Reply
-recordReply a = record { refusal = numberIn (a .0); letter = 0; numbers = fieldsOf (a .1) }
+recordReply a = record { refusal = numberIn (a .0); letter = 0; beside = 0; numbers = fieldsOf (a .1) }
 
 -- one of a reply's ten numbers by its place, and +0.0 past them
 abbrev pub numberAt : List Float → ℕ → Float

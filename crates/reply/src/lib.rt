@@ -11,9 +11,10 @@ pub use shape::number_reply;
 pub use shape::record_reply;
 pub use shape::refused;
 
-// The refusal's number or 0, the letter in ASCII or 0, and up to ten numbers.
+// The refusal's number or 0, the letter in ASCII or 0, a whole number beside these (of cp and w together: w's refusal), and up to ten numbers.
 pub struct Reply {
     pub refusal: u8,
     pub letter: u8,
+    pub beside: u32,
     pub numbers: [f64; 10],
 }

@@ -20,6 +20,7 @@ pub fn refused(k: u8) -> Reply
     Reply {
         refusal: k,
         letter: 0,
+        beside: 0,
         numbers: [0.0; 10],
     }
 }
@@ -31,6 +32,7 @@ pub fn number_reply(a: Answer) -> Reply
         Answer::Value(x) => Reply {
             refusal: 0,
             letter: 0,
+            beside: 0,
             numbers: [x, 0.0, 0.0, 0.0, 0.0, 0.0, 0.0, 0.0, 0.0, 0.0],
         },
         Answer::Refused(k) => refused(number(k)),
@@ -44,6 +46,7 @@ pub fn letter_reply(c: LetterAnswer) -> Reply
     Reply {
         refusal: refusal_byte(c),
         letter: letter_byte(c),
+        beside: 0,
         numbers,
     }
 }
@@ -56,6 +59,7 @@ pub fn record_reply(a: RecordAnswer) -> Reply
     Reply {
         refusal: verdict_byte(v),
         letter: 0,
+        beside: 0,
         numbers: fields(x),
     }
 }

@@ -7,7 +7,10 @@ use lib.Ieee.{Float, nan, inf, fin}
 use Rattle.common.specs.Outcome.{Outcome, value, refused, finite, check, then}
 use Rattle.common.proofs.Laws.{Lost, check-kept, check-lost}
 use Rattle.common.specs.Formula.{Raw}
-use Rattle.td_record.specs.Steps.{pressureFrom, recordAfter, recordSteps}
+use Rattle.helmholtz.specs.Number.{Number}
+use Rattle.properties.specs.Together.{Td2cp-w}
+use Rattle.properties.proofs.Together.{cp-number, w-number}
+use Rattle.td_record.specs.Steps.{pressureFrom, recordWith, recordAfter, recordSteps}
 use Rattle.td_record.specs.declared.Pressure.{Pressure}
 
 module _ {A : Type 0} (f : Float → Outcome A) (a : A) where
@@ -52,3 +55,8 @@ steps-after t d v source o w = rw (w .is) (twice v)
     twice nan = refl
     twice (inf s) = refl
     twice (fin s m e) = refl
+
+-- the cp and the w that were asked for together are those of table 31
+pub record-with : (t d v p : Float) {cp w : Float} → Number (Td2cp-w (check t) (check d) .cp) cp → Number (Td2cp-w (check t) (check d) .w) w → recordAfter t d v p ≡ recordWith t d v p (check cp) (check w)
+unfolding recordAfter
+record-with t d v p x y = rw (cp-number t d x .raw .is, w-number t d y .raw .is)

@@ -12,13 +12,17 @@ abbrev pub pressureFrom : Pressure → Formula
 pressureFrom Worked T d = statePressure T d
 pressureFrom (Found p) T d = check (p .0)
 
--- the steps after p: h, s, u, cv, cp, w
-unfoldable pub recordAfter : Float → Float → Float → Float → Outcome Record
-recordAfter t d v p =
+-- the steps after p: h, s, u, cv, and then a cp and a w
+abbrev pub recordWith : Float → Float → Float → Float → Outcome Float → Outcome Float → Outcome Record
+recordWith t d v p Cp W =
     let T = check t in
     let D = check d in
-    then (Td2h T D) (λ h. then (Td2s T D) (λ s. then (Td2u T D) (λ u. then (Td2cv T D) (λ cv. then (Td2cp T D) (λ cp. then (Td2w T D) (λ w.
+    then (Td2h T D) (λ h. then (Td2s T D) (λ s. then (Td2u T D) (λ u. then (Td2cv T D) (λ cv. then Cp (λ cp. then W (λ w.
     value record { T = t; d = d; v = v; p = p; h = h; s = s; u = u; cv = cv; cp = cp; w = w }))))))
+
+-- with the cp and the w of table 31
+unfoldable pub recordAfter : Float → Float → Float → Float → Outcome Record
+recordAfter t d v p = recordWith t d v p (Td2cp (check t) (check d)) (Td2w (check t) (check d))
 
 -- the steps at a state T, d, v: v, p and the others
 unfoldable pub recordSteps : Float → Float → Float → Pressure → Outcome Record

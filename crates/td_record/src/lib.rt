@@ -9,14 +9,14 @@ use common::Verdict;
 use common::check_Td;
 use common::is_finite;
 use common::settle;
+use properties::RawCpW;
 use properties::lost_or;
-use properties::raw_cp;
+use properties::raw_cp_w;
 use properties::raw_cv;
 use properties::raw_h;
 use properties::raw_s;
 use properties::raw_u;
 use properties::raw_v;
-use properties::raw_w;
 use properties::state_p;
 use record::Record;
 use record::RecordAnswer;
@@ -25,7 +25,7 @@ ghost use mathlib.Core.Path.{_≡_};
 ghost use Rattle.common.specs.Outcome.{check};
 ghost use Rattle.common.specs.Answer.{paper};
 ghost use Rattle.record.specs.Record.{report, paperRecord};
-ghost use Rattle.td_record.specs.Steps.{pressureFrom, recordAfter, recordSteps, recordRule};
+ghost use Rattle.td_record.specs.Steps.{pressureFrom, recordWith, recordSteps, recordRule};
 ghost use Rattle.td_record.specs.Complete.{complete};
 
 // Where a record's p comes from: worked from T and d and range-tested, or found before.
@@ -43,9 +43,9 @@ fn pressure_of(t: Kelvin, d: KgPerM3, pressure: Pressure) -> Answer
     }
 }
 
-// The caller's record with every field worked, lost or not.
-fn worked_fields(given: Record, t: Kelvin, d: KgPerM3, v: f64, p: f64) -> Record
-    ensures { λ r. ⌜ recordAfter (t .0) (d .0) v p ≡ complete r ⌝ }
+// The caller's record with every field worked, lost or not; cp and w are those that were asked for together, whatever they are.
+fn worked_fields(given: Record, t: Kelvin, d: KgPerM3, v: f64, p: f64, both: RawCpW) -> Record
+    ensures { λ r. ⌜ recordWith (t .0) (d .0) v p (check (both .cp)) (check (both .w)) ≡ complete r ⌝ }
 {
     let mut worked = given;
     worked.T = t.0;
@@ -56,8 +56,8 @@ fn worked_fields(given: Record, t: Kelvin, d: KgPerM3, v: f64, p: f64) -> Record
     worked.s = raw_s(t, d);
     worked.u = raw_u(t, d);
     worked.cv = raw_cv(t, d);
-    worked.cp = raw_cp(t, d);
-    worked.w = raw_w(t, d);
+    worked.cp = both.cp;
+    worked.w = both.w;
     worked
 }
 
@@ -84,7 +84,7 @@ pub fn work_record(given: Record, t: Kelvin, d: KgPerM3, v: f64, pressure: Press
 {
     if is_finite(v) {
         return match pressure_of(t, d, pressure) {
-            Answer::Value(p) => accept_complete(worked_fields(given, t, d, v, p)),
+            Answer::Value(p) => accept_complete(worked_fields(given, t, d, v, p, raw_cp_w(t, d))),
             Answer::Refused(k) => refuse(given, k),
         };
     }

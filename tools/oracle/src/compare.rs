@@ -123,6 +123,10 @@ fn show(number: u64, row: &Row, wanted: &[u8], got: &[u8]) {
         );
     }
     if wanted[2..8] != got[2..8] {
-        println!("  program bytes 2 to 7 are {:?}, not zeros", &got[2..8]);
+        println!(
+            "  bytes 2 to 7: oracle {:?}, program {:?}",
+            &wanted[2..8],
+            &got[2..8]
+        );
     }
 }

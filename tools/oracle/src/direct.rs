@@ -62,6 +62,11 @@ macro_rules! direct {
                     }
                     25 => r3::Td_thermal_reg3(x, y, whole),
                     30 => return Answer::lettered(letter(x, y), r3::pT_reg3(x, y, OD)),
+                    34 => {
+                        let mut both = Answer::number(r3::Td_thermal_reg3(x, y, OCP));
+                        both.numbers[1] = r3::Td_thermal_reg3(x, y, OW);
+                        return both;
+                    }
                     _ => return Answer::refused(NO_ENTRY),
                 };
                 Answer::number(number)

@@ -51,6 +51,7 @@ pub fn answer(row: &Row) -> Answer {
         24 => record(hs_record(x, y)),
         25 => number(Td_property(x, y, row.whole)),
         30 => column_row(x, y).map(|(letter, d)| Answer::lettered(letter, d)),
+        34 => Ok(cp_and_w(x, y)),
         _ => Err(NO_ENTRY),
     };
     outcome.unwrap_or_else(Answer::refused)
@@ -224,6 +225,22 @@ pub fn Td_property(T: f64, d: f64, number: i32) -> Outcome<f64> {
     }
     let (T, d) = two(T, T_BOX, d, D_BOX)?;
     raw(steps(|| r3::Td_thermal_reg3(T, d, number)))
+}
+
+/// cp and w, each by the Rust's own function and each a value or a refusal: a range refuses both.
+pub fn cp_and_w(T: f64, d: f64) -> Answer {
+    let (cp, w) = match two(T, T_BOX, d, D_BOX) {
+        Ok((T, d)) => (
+            raw(steps(|| r3::Td2cp_reg3(T, d))),
+            raw(steps(|| r3::Td2w_reg3(T, d))),
+        ),
+        Err(k) => (Err(k), Err(k)),
+    };
+    let mut answer = Answer::refused(cp.err().unwrap_or(0));
+    answer.beside = w.err().unwrap_or(0).into();
+    answer.numbers[0] = cp.unwrap_or(0.0);
+    answer.numbers[1] = w.unwrap_or(0.0);
+    answer
 }
 
 /// One row of the column run: the (p,T) steps as far as d. The letter is 0 at the critical point.

@@ -33,6 +33,7 @@ impl Measures {
         let places = match row.entry {
             8 => 0,
             20..=24 => 10,
+            34 => 2,
             _ => 1,
         };
         let whole = if matches!(row.entry, 7 | 9 | 11 | 25) {
@@ -101,6 +102,7 @@ fn property(key: &Key) -> String {
         9 => format!("v of {}", whole as u8 as char),
         11 => ["v of liquid", "v of steam"][whole as usize].to_string(),
         20..=24 => FIELDS[place].to_string(),
+        34 => ["cp", "w"][place].to_string(),
         25 => PROPERTIES
             .iter()
             .find(|p| p.0 == whole)

@@ -1,5 +1,5 @@
 //! Rows of 24 bytes and answers of 88, as the program `answers` reads and writes them.
-//! A row: entry, i32, two f64. An answer: refusal, letter, ten f64. All little end first.
+//! A row: entry, i32, two f64. An answer: refusal, letter, u32 from byte 4 on, ten f64. All little end first.
 
 use crate::forms::plain::common::property_id::*;
 
@@ -10,7 +10,7 @@ pub const ANSWER: usize = 88;
 pub const FIELDS: [&str; 10] = ["T", "d", "v", "p", "h", "s", "u", "cv", "cp", "w"];
 
 /// The entries, by number and by the name that reports give them.
-pub const ENTRIES: [(u8, &str); 23] = [
+pub const ENTRIES: [(u8, &str); 24] = [
     (1, "power"),
     (2, "root"),
     (3, "logarithm"),
@@ -34,6 +34,7 @@ pub const ENTRIES: [(u8, &str); 23] = [
     (24, "(h,s) record"),
     (25, "property"),
     (30, "column row"),
+    (34, "cp and w"),
 ];
 
 /// The boundaries in the order of entry 7's whole number.
@@ -122,6 +123,8 @@ impl Row {
 pub struct Answer {
     pub refusal: u8,
     pub letter: u8,
+    /// what stands beside the refusal: of cp and w together, w's
+    pub beside: u32,
     pub numbers: [f64; 10],
 }
 
@@ -141,17 +144,16 @@ impl Answer {
         let mut numbers = [0.0; 10];
         numbers[0] = x;
         Answer {
-            refusal: 0,
             letter,
             numbers,
+            ..Answer::default()
         }
     }
 
     pub fn record(numbers: [f64; 10]) -> Answer {
         Answer {
-            refusal: 0,
-            letter: 0,
             numbers,
+            ..Answer::default()
         }
     }
 
@@ -159,6 +161,7 @@ impl Answer {
         let mut bytes = [0; ANSWER];
         bytes[0] = self.refusal;
         bytes[1] = self.letter;
+        bytes[4..8].copy_from_slice(&self.beside.to_le_bytes());
         for (place, x) in bytes[8..].chunks_exact_mut(8).zip(self.numbers) {
             place.copy_from_slice(&x.to_bits().to_le_bytes());
         }
@@ -173,6 +176,7 @@ impl Answer {
         Answer {
             refusal: bytes[0],
             letter: bytes[1],
+            beside: u32::from_le_bytes(bytes[4..8].try_into().unwrap()),
             numbers,
         }
     }

@@ -355,7 +355,7 @@ fn rules_and_std() {
 /// 5 comes from calls by letter, and from base 0 in (h,s).
 #[test]
 fn where_5_comes_from() {
-    for entry in [7, 8, 10, 11, 12, 13, 14, 15, 20, 21, 22, 23, 25, 30] {
+    for entry in [7, 8, 10, 11, 12, 13, 14, 15, 20, 21, 22, 23, 25, 30, 34] {
         let refused = rows(entry, 100_000)
             .filter(|row| answer(row).refusal == 5)
             .count();

@@ -5,18 +5,20 @@ use borrow.Author.Needs.{needs}
 use Rattle.common.specs.Outcome.{finite}
 use Rattle.common.specs.Answer.{paper}
 use Rattle.record.specs.Record.{report}
-use Rattle.td_record.proofs.RecordSteps.{steps-value, steps-refused, steps-lost}
+use Rattle.td_record.proofs.RecordSteps.{steps-value, steps-refused, steps-lost, record-with}
 use Rattle.td_record.proofs.work_record.Statement.{statement}
 use Rattle.td_record.proofs.work_record.Tie as tie
 
 returns : tie.Need-returns
 returns c =
-    let s = c .before .before .before in
+    let both = c .before .before .raw-cp-w .ensures in
+    let s = c .before .before .before .before in
     let m = s .before .before in
     let a = m .before .before .before .args in
     let f : finite (a .v) ≡ true = cc in
     let p = sym (m .pressure-of .ensures) ∙ ap paper (s .p .given .1) in
-    c .accept-complete .ensures ∙ ap report (sym (c .before .worked-fields .ensures) ∙ sym (steps-value _ _ _ (a .pressure) _ f p))
+    let fields = record-with (a .t .0) (a .d .0) (a .v) _ (both .0) (both .1) ∙ c .before .worked-fields .ensures in
+    c .accept-complete .ensures ∙ ap report (sym fields ∙ sym (steps-value _ _ _ (a .pressure) _ f p))
 
 returns-2 : tie.Need-returns-2
 returns-2 c =
@@ -40,6 +42,7 @@ work-record-spec =
     (λ c κs. search needs)
     (λ c κs. search needs)
     (λ c. search needs)
+    (λ c κs. search needs)
     (λ c κs. search needs)
     (λ c κs. search needs)
     (λ c. search needs)

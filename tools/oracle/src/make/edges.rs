@@ -32,7 +32,7 @@ fn of_state(entry: u8, random: &mut Random) -> Vec<Row> {
             pairs.extend(between_lines());
         }
         9 | 21 => pairs.extend(pT_lines(random)),
-        12..=16 | 20 | 22..=25 => {
+        12..=16 | 20 | 22..=25 | 34 => {
             // crossings of range ends, dividing lines, two-phase states
             pairs.extend((0..150).filter_map(|_| states::line(entry, random)));
         }

@@ -20,7 +20,7 @@ pub fn shape(entry: u8) -> (Quantity, Option<Quantity>) {
         12 | 13 | 22 => (P, Some(H)),
         14 | 15 | 23 => (P, Some(S)),
         16 | 24 => (H, Some(S)),
-        20 | 25 => (T, Some(D)),
+        20 | 25 | 34 => (T, Some(D)),
         _ => unreachable!("entry {entry} takes no state"),
     }
 }
@@ -72,7 +72,7 @@ pub fn line(entry: u8, random: &mut Random) -> Option<(f64, f64)> {
         12 | 13 | 22 => ph(random),
         14 | 15 | 23 => ps(random),
         16 | 24 => hs(random),
-        20 | 25 => Td(random),
+        20 | 25 | 34 => Td(random),
         _ => None,
     }
 }

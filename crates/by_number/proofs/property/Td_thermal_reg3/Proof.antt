@@ -1,6 +1,6 @@
 -- `by_number::property::Td_thermal_reg3`: an arm for each number, and 6 for any other.
 use mathlib.Core.Path.{sym}
-use Rattle.by_number.proofs.Numbers.{numbered, unknown, arm}
+use Rattle.by_number.proofs.Numbers.{numbered, unknown, arm, arm-cp, arm-w}
 use Rattle.by_number.proofs.property.Td_thermal_reg3.Statement.{statement}
 use Rattle.by_number.proofs.property.Td_thermal_reg3.Tie as tie
 
@@ -23,46 +23,46 @@ returns-6 : tie.Need-returns-6
 returns-6 c = let k = c .before .before in arm _ _ (numbered (k .before .fits .o-id) (k .match .keys6) _ _) (c .settled5 .ensures) (sym (c .before .raw-u .ensures .raw .is))
 
 returns-7 : tie.Need-returns-7
-returns-7 c = let k = c .before .before in arm _ _ (numbered (k .before .fits .o-id) (k .match .keys7) _ _) (c .settled6 .ensures) (sym (c .before .raw-cp .ensures .raw .is))
+returns-7 c = let k = c .before in arm-cp _ _ (numbered (k .before .fits .o-id) (k .match .keys7) _ _) (c .Td2cp-w-reg3 .ensures)
 
 returns-8 : tie.Need-returns-8
-returns-8 c = let k = c .before .before in arm _ _ (numbered (k .before .fits .o-id) (k .match .keys8) _ _) (c .settled7 .ensures) (sym (c .before .raw-cv .ensures .raw .is))
+returns-8 c = let k = c .before .before in arm _ _ (numbered (k .before .fits .o-id) (k .match .keys8) _ _) (c .settled6 .ensures) (sym (c .before .raw-cv .ensures .raw .is))
 
 returns-9 : tie.Need-returns-9
-returns-9 c = let k = c .before .before in arm _ _ (numbered (k .before .fits .o-id) (k .match .keys9) _ _) (c .settled8 .ensures) (sym (c .before .raw-w .ensures .raw .is))
+returns-9 c = let k = c .before in arm-w _ _ (numbered (k .before .fits .o-id) (k .match .keys9) _ _) (c .Td2cp-w-reg32 .ensures)
 
 returns-10 : tie.Need-returns-10
 returns-10 c = let k = c .before .before in arm _ _ (numbered (k .before .fits .o-id) (k .match .keys10) _ _) (c .answered2 .ensures) (c .before .state-ks .ensures)
 
 returns-11 : tie.Need-returns-11
-returns-11 c = let k = c .before .before in arm _ _ (numbered (k .before .fits .o-id) (k .match .keys11) _ _) (c .settled9 .ensures) (sym (c .before .raw-f .ensures .raw .is))
+returns-11 c = let k = c .before .before in arm _ _ (numbered (k .before .fits .o-id) (k .match .keys11) _ _) (c .settled7 .ensures) (sym (c .before .raw-f .ensures .raw .is))
 
 returns-12 : tie.Need-returns-12
-returns-12 c = let k = c .before .before in arm _ _ (numbered (k .before .fits .o-id) (k .match .keys12) _ _) (c .settled10 .ensures) (sym (c .before .raw-g .ensures .raw .is))
+returns-12 c = let k = c .before .before in arm _ _ (numbered (k .before .fits .o-id) (k .match .keys12) _ _) (c .settled8 .ensures) (sym (c .before .raw-g .ensures .raw .is))
 
 returns-13 : tie.Need-returns-13
 returns-13 c = let k = c .before .before in arm _ _ (numbered (k .before .fits .o-id) (k .match .keys13) _ _) (c .answered3 .ensures) (c .before .state-z .ensures)
 
 returns-14 : tie.Need-returns-14
-returns-14 c = let k = c .before .before in arm _ _ (numbered (k .before .fits .o-id) (k .match .keys14) _ _) (c .settled11 .ensures) (sym (c .before .raw-ec .ensures .raw .is))
+returns-14 c = let k = c .before .before in arm _ _ (numbered (k .before .fits .o-id) (k .match .keys14) _ _) (c .settled9 .ensures) (sym (c .before .raw-ec .ensures .raw .is))
 
 returns-15 : tie.Need-returns-15
-returns-15 c = let k = c .before .before in arm _ _ (numbered (k .before .fits .o-id) (k .match .keys15) _ _) (c .settled12 .ensures) (sym (c .before .raw-kt .ensures .raw .is))
+returns-15 c = let k = c .before .before in arm _ _ (numbered (k .before .fits .o-id) (k .match .keys15) _ _) (c .settled10 .ensures) (sym (c .before .raw-kt .ensures .raw .is))
 
 returns-16 : tie.Need-returns-16
-returns-16 c = let k = c .before .before in arm _ _ (numbered (k .before .fits .o-id) (k .match .keys16) _ _) (c .settled13 .ensures) (sym (c .before .raw-dvdtcp .ensures .raw .is))
+returns-16 c = let k = c .before .before in arm _ _ (numbered (k .before .fits .o-id) (k .match .keys16) _ _) (c .settled11 .ensures) (sym (c .before .raw-dvdtcp .ensures .raw .is))
 
 returns-17 : tie.Need-returns-17
-returns-17 c = let k = c .before .before in arm _ _ (numbered (k .before .fits .o-id) (k .match .keys17) _ _) (c .settled14 .ensures) (sym (c .before .raw-dvdpct .ensures .raw .is))
+returns-17 c = let k = c .before .before in arm _ _ (numbered (k .before .fits .o-id) (k .match .keys17) _ _) (c .settled12 .ensures) (sym (c .before .raw-dvdpct .ensures .raw .is))
 
 returns-18 : tie.Need-returns-18
-returns-18 c = let k = c .before .before in arm _ _ (numbered (k .before .fits .o-id) (k .match .keys18) _ _) (c .settled15 .ensures) (sym (c .before .raw-dpdtcv .ensures .raw .is))
+returns-18 c = let k = c .before .before in arm _ _ (numbered (k .before .fits .o-id) (k .match .keys18) _ _) (c .settled13 .ensures) (sym (c .before .raw-dpdtcv .ensures .raw .is))
 
 returns-19 : tie.Need-returns-19
-returns-19 c = let k = c .before .before in arm _ _ (numbered (k .before .fits .o-id) (k .match .keys19) _ _) (c .settled16 .ensures) (sym (c .before .raw-iJTC .ensures .raw .is))
+returns-19 c = let k = c .before .before in arm _ _ (numbered (k .before .fits .o-id) (k .match .keys19) _ _) (c .settled14 .ensures) (sym (c .before .raw-iJTC .ensures .raw .is))
 
 returns-20 : tie.Need-returns-20
-returns-20 c = let k = c .before .before in arm _ _ (numbered (k .before .fits .o-id) (k .match .keys20) _ _) (c .settled17 .ensures) (sym (c .before .raw-joule .ensures .raw .is))
+returns-20 c = let k = c .before .before in arm _ _ (numbered (k .before .fits .o-id) (k .match .keys20) _ _) (c .settled15 .ensures) (sym (c .before .raw-joule .ensures .raw .is))
 
 returns-21 : tie.Need-returns-21
 returns-21 c = let k = c .before .before in arm _ _ (numbered (k .before .fits .o-id) (k .match .keys21) _ _) (c .answered4 .ensures) (c .before .state-pc .ensures)
@@ -71,7 +71,7 @@ returns-22 : tie.Need-returns-22
 returns-22 c = let k = c .before .before in arm _ _ (numbered (k .before .fits .o-id) (k .match .keys22) _ _) (c .answered5 .ensures) (c .before .state-batap .ensures)
 
 returns-23 : tie.Need-returns-23
-returns-23 c = let k = c .before .before in arm _ _ (numbered (k .before .fits .o-id) (k .match .keys23) _ _) (c .settled18 .ensures) (sym (c .before .raw-fi .ensures .raw .is))
+returns-23 c = let k = c .before .before in arm _ _ (numbered (k .before .fits .o-id) (k .match .keys23) _ _) (c .settled16 .ensures) (sym (c .before .raw-fi .ensures .raw .is))
 
 returns-24 : tie.Need-returns-24
 returns-24 c = let k = c .before .before in arm _ _ (numbered (k .before .fits .o-id) (k .match .keys24) _ _) (c .answered6 .ensures) (c .before .state-fu .ensures)
@@ -86,7 +86,6 @@ pub Td-thermal-reg3-spec : {M : Type 1} → statement M
 Td-thermal-reg3-spec =
     tie.close
     (tie.spec
-    (λ c κs. tt) (λ c κs. tt)
     (λ c κs. tt) (λ c κs. tt)
     (λ c κs. tt) (λ c κs. tt)
     (λ c κs. tt) (λ c κs. tt)

@@ -4,7 +4,7 @@ use mir.Syntax.{w32}
 use mir.ValLaws.{toZ-ofZ}
 use borrow.Author.Needs.{needs}
 use Rattle.reply.specs.Shape.{numberReply, letterReply, recordReply}
-use Rattle.entries.specs.Named.{rowReply}
+use Rattle.entries.specs.Named.{rowReply, cpWReply}
 use Rattle.entries.specs.Entries.{replyRule}
 use Rattle.entries.proofs.call.answer.Statement.{statement}
 use Rattle.entries.proofs.call.answer.Tie as tie
@@ -105,6 +105,10 @@ returns-24 : tie.Need-returns-24
 unfolding replyRule
 returns-24 c = rw (c .before .before .enum-told24 .given .1) (c .row-reply .ensures ∙ ap rowReply (c .before .row .ensures))
 
+returns-25 : tie.Need-returns-25
+unfolding replyRule
+returns-25 c = rw (c .before .before .enum-told25 .given .1) (c .cp-w-reply .ensures ∙ ap cpWReply (c .before .Td2cp-w-reg3 .ensures))
+
 pub answer-spec : {M : Type 1} → statement M
 answer-spec =
     tie.close
@@ -182,6 +186,9 @@ answer-spec =
     (λ c. search needs)
     (λ c κs. search needs)
     (λ c κs. search needs)
+    (λ c. search needs)
+    (λ c κs. search needs)
+    (λ c κs. search needs)
     returns
     returns-2
     returns-3
@@ -205,4 +212,5 @@ answer-spec =
     returns-21
     returns-22
     returns-23
-    returns-24)
+    returns-24
+    returns-25)

@@ -4,6 +4,7 @@ use mathlib.Core.Path.{refl}
 use lib.Ieee.{ofBits}
 use borrow.Author.Needs.{needs}
 use Rattle.common.specs.Decimal.{whole, scaled}
+use Rattle.properties.proofs.Together.{cp-number}
 use Rattle.extended.specs.Ext.{Td2iJTC}
 use Rattle.helmholtz.proofs.Numbers.{tested}
 use Rattle.extended.proofs.region3_Td_ext.raw_iJTC.Statement.{statement}
@@ -12,7 +13,10 @@ use Rattle.extended.proofs.region3_Td_ext.raw_iJTC.Tie as tie
 returns : tie.Need-returns
 unfolding ofBits whole scaled Td2iJTC
 returns c =
-    tested (raw-div refl (raw-minus (c .before .before .raw-cp .ensures .raw) *ʳ c .before .raw-joule .ensures .raw) (raw-value (whole 1000) refl)) (c .finite-or-nan .ensures)
+    let s = c .before .before .before in
+    let a = s .before .args in
+    let cp = cp-number (a .t .0) (a .d .0) (s .raw-cp-w .ensures .0) .raw in
+    tested (raw-div refl (raw-minus cp *ʳ c .before .raw-joule .ensures .raw) (raw-value (whole 1000) refl)) (c .finite-or-nan .ensures)
 
 pub raw-iJTC-spec : {M : Type 1} → statement M
 raw-iJTC-spec = tie.close (tie.spec (λ c κs. search needs) (λ c κs. search needs) (λ c κs. search needs) returns)

@@ -5,6 +5,7 @@ use lib.Ieee.{ofBits}
 use borrow.Author.Needs.{needs}
 use Rattle.common.specs.Decimal.{scaled}
 use Rattle.properties.specs.Td.{statePressure}
+use Rattle.properties.proofs.Together.{w-number}
 use Rattle.extended.specs.Ext.{Td2ks}
 use Rattle.extended.proofs.TestedP.{then-p}
 use Rattle.extended.proofs.region3_Td_ext.state_ks.Statement.{statement}
@@ -14,9 +15,11 @@ returns : tie.Need-returns
 unfolding ofBits scaled statePressure Td2ks
 returns c =
     let s = c .before .before .before .before in
-    let d = raw-check (s .before .before .args .d .0) in
+    let a = s .before .before .args in
+    let d = raw-check (a .d .0) in
+    let w = w-number (a .t .0) (a .d .0) (s .before .raw-cp-w .ensures .1) .raw in
     rw (c .with-tested-p .ensures, c .before .before .before .lost-or .ensures)
-    (then-p (c .before .over .result) _ (s .before .raw-w .ensures .raw) (s .raw-p .ensures .raw)
+    (then-p (c .before .over .result) _ w (s .raw-p .ensures .raw)
     (λ fw fp. named (c .before .over .ensures) (raw-value _ refl *ʳ raw-value _ fw *ʳ raw-value _ fw *ʳ d /ʳ raw-value _ fp)))
 
 pub state-ks-spec : {M : Type 1} → statement M

@@ -1,6 +1,6 @@
 -- `reply::bytes::put_bytes` meets its contract. Assumes nothing.
 use mathlib.Core.Path.{_≡_, refl, ap, _∙_}
-use mathlib.Core.List.{List, [], _∷_}
+use mathlib.Core.List.{List}
 use Prim.Native.Nat.{ℕ, _+_, _-_, _*_, _≤_}
 use native.Mathlib.Nat.{le-antisymm}
 use native.Mathlib.Omega.{arith}
@@ -9,8 +9,8 @@ use lib.Seq.{sets}
 use borrow.Author.Needs.{needs}
 use Rattle.buffer.specs.Bytes.{joined, eight}
 use Rattle.buffer.proofs.Laws.{sets-append, placed-all, pieces-more}
-use Rattle.reply.proofs.Laws.{head-word, number-length}
-use Rattle.reply.specs.Bytes.{numberBytes, replyBytes}
+use Rattle.reply.proofs.Laws.{number-length}
+use Rattle.reply.specs.Bytes.{numberBytes, headBytes, replyBytes}
 use Rattle.reply.proofs.bytes.put_bytes.Statement.{statement}
 use Rattle.reply.proofs.bytes.put_bytes.Tie as tie
 
@@ -32,7 +32,7 @@ loop-again c =
     let p = c .before .before in
     let l = c .before .before .before .before .before in
     let w = c .before .before .before .before .before .before .before .before .before in
-    let s = c .before .before .before .before .before .before .before .before .before .before .before .before .before .before in
+    let s = w .before .before .before .before in
     let f = numberBytes (s .args .r .numbers) in
     let k = l .loop .k in (
       omega arith,
@@ -47,17 +47,15 @@ unfolding replyBytes
 returns c =
     let l = c .before in
     let w = c .before .before .before .before .before in
-    let s = w .before .before .before .before .before in
+    let s = w .before .before .before .before in
     let a = s .args in
     let f = numberBytes (a .r .numbers) in
-    let head = a .r .refusal ∷ a .r .letter ∷ 0 ∷ 0 ∷ 0 ∷ 0 ∷ 0 ∷ 0 ∷ [] in
-    let x = w .before .before .wide in
-    let y = w .before .wide2 in
-    let e : eight (x .result + 256 * y .result) ≡ head = head-word (x .result) (y .result) (x .ensures .1) (y .ensures .1) ∙ cc in
+    let head = headBytes (a .r .refusal) (a .r .letter) (a .r .beside) in
+    let n = w .before .head .result in
     l .loop .inv .2
     ∙ ap (λ (n : ℕ). sets (w .put-word .last .0) (a .at + 8) (joined f n)) (le-antisymm (l .loop .inv .0) (c .loop-test .left))
     ∙ ap (λ (m : List ℕ). sets m (a .at + 8) (joined f 10))
-    (w .put-word .ensures ∙ placed-all (a .out .now) (a .at) (eight (x .result + 256 * y .result)) (omega (arith, s .pre)) ∙ ap (λ (m : List ℕ). sets (a .out .now) (a .at) m) e)
+    (w .put-word .ensures ∙ placed-all (a .out .now) (a .at) (eight n) (omega (arith, s .pre)) ∙ ap (λ (m : List ℕ). sets (a .out .now) (a .at) m) (w .before .head .ensures))
     ∙ sets-append head (joined f 10) (a .out .now) (a .at)
 
 pub put-bytes-spec : {M : Type 1} → statement M
@@ -67,9 +65,6 @@ put-bytes-spec =
     Inv-loop
     μ-loop
     (λ c κs. search needs)
-    (λ c κs. search needs)
-    (λ c. search needs)
-    (λ c. search needs)
     (λ c κs. search needs)
     loop-holds
     (λ c. search needs)
