@@ -221,6 +221,14 @@ static void refusals(void) {
     expect(r3_letter(101, 650, &letter) == R3_FIRST && letter == 0, "a refused letter", 101, 650);
     double x;
     expect(r3_p_saturation(650, &x) == R3_FIRST && same(x, 0.0), "above the saturation line", 650, 0);
+    expect(r3_p_border(623.15, &x) == R3_ACCEPTED && printed(x, 16.5291643, 9), "p_border(623.15), R7-97", 623.15, 0);
+    expect(r3_t_border(16.5291643, &x) == R3_ACCEPTED && printed(x, 623.15, 9), "t_border(16.5291643), R7-97", 16.5291643, 0);
+    expect(r3_t_border(101, &x) == R3_FIRST && same(x, 0.0), "above the border's pressures", 101, 0);
+    expect(r3_pt(18, 640, r) == R3_BORDER && zeros(r, R3_FIELDS), "beyond the border with region 2", 18, 640);
+    expect(r3_pt(18, 635.8209528593616, r) == R3_ACCEPTED, "on the border with region 2", 18, 635.8209528593616);
+    expect(r3_pt(18, 635.8209528593617, r) == R3_BORDER, "the next double above the border", 18, 635.8209528593617);
+    expect(r3_pt(101, 900, r) == R3_FIRST && r3_pt(18, 900, r) == R3_SECOND, "8 comes after 2 and 3", 101, 900);
+    expect(r3_letter(100, 863.15, &letter) == R3_BORDER && letter == 0, "both ends of the box", 100, 863.15);
     expect(r3_t_saturation(16.5, &x) == R3_FIRST && same(x, 0.0), "below the saturation line", 16.5, 0);
 }
 
@@ -263,7 +271,7 @@ static const int modes[] = {0, 0x800000, 0x400000, 0xc00000};
 #error "the rounding modes of this processor are not known here"
 #endif
 
-enum { CALLS = 14, POINTS = 1000 };
+enum { CALLS = 16, POINTS = 1000 };
 
 struct answer {
     double numbers[R3_FIELDS];
@@ -301,6 +309,8 @@ static void call_all(struct point z, struct answer *a) {
     a[11].refusal = r3_root(z.x, a[11].numbers);
     a[12].refusal = r3_logarithm(z.x, a[12].numbers);
     a[13].refusal = r3_exponential(z.x, a[13].numbers);
+    a[14].refusal = r3_p_border(z.t, a[14].numbers);
+    a[15].refusal = r3_t_border(z.p, a[15].numbers);
 }
 
 // The check of the rounding mode agrees with fegetround. Why it is there: how many calls answer other bits in another mode is printed.

@@ -2,11 +2,11 @@
 -- (common/boundaries.rs). Assumes nothing: these are definitions.
 use Rattle.common.specs.Formula.{_⊕_, _⊖_, _⊗_, _⊘_}
 use lib.IntN.{pos}
-use lib.Ieee.{Float}
-use Rattle.common.specs.Outcome.{Outcome, value, then}
+use mathlib.Core.Bool.{cond}
+use lib.Ieee.{Float, lt}
+use Rattle.common.specs.Outcome.{Outcome, value, refused, then}
 use Rattle.common.specs.Decimal.{plus, minus, negative}
-use Rattle.common.specs.Constant.{T-FROM, T-TO}
-use Rattle.common.specs.Range.{onlyRule, pBox}
+use Rattle.common.specs.Range.{pBox, TBox, pTBox}
 use Rattle.rules.specs.Formula.{rootOf}
 
 -- table 1
@@ -35,7 +35,17 @@ B23-p2T p = n4 ⊕ rootOf ((value p ⊖ n5) ⊘ n3)
 
 -- the calls: T from 623.15 to 863.15, p from 16.529 to 100; what is answered has no range
 unfoldable pub B23-T2pRule : Float → Outcome Float
-B23-T2pRule t = then (onlyRule T-FROM T-TO t) (λ _. B23-T2p t)
+B23-T2pRule t = then (TBox t) (λ _. B23-T2p t)
 
 unfoldable pub B23-p2TRule : Float → Outcome Float
 B23-p2TRule p = then (pBox p) (λ _. B23-p2T p)
+
+-- T is not above the border, as it is worked out in f64. For a p of the box no step of it is lost (proofs/Never), so 8 is the one number that is added
+unfoldable pub besideBorder : Float → Float → Outcome Unit
+unfolding B23-p2T
+besideBorder p t = then (B23-p2T p) (λ border. cond (lt border t) (refused 8) (value tt))
+
+-- what the (p,T) entry, a row of the column run and the letter choice ask first: the box, then the border
+unfoldable pub region3Box : Float → Float → Outcome Unit
+unfolding besideBorder
+region3Box p t = then (pTBox p t) (λ _. besideBorder p t)

@@ -31,6 +31,8 @@ pub enum Entry {
     PsT,
     PsV,
     HsP,
+    BorderT,
+    BorderP,
     TdRecord,
     PtRecord,
     PhRecord,

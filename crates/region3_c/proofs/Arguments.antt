@@ -9,6 +9,7 @@ use Rattle.rules.specs.Root.{rootRule}
 use Rattle.rules.specs.Log.{logarithmRule}
 use Rattle.rules.specs.Exp.{exponentialRule}
 use Rattle.r4.specs.Saturation.{p-saturationRule, T-saturationRule}
+use Rattle.border.specs.Border.{B23-T2pRule, B23-p2TRule}
 use Rattle.boundary.specs.Choice.{letterRule}
 use Rattle.record.specs.Record.{report}
 use Rattle.td_record.specs.Steps.{recordRule}
@@ -25,6 +26,10 @@ use Rattle.region3_c.proofs.r3_p_saturation.Kinds as p-saturation-kinds
 use Rattle.region3_c.proofs.r3_p_saturation.Reads as p-saturation
 use Rattle.region3_c.proofs.r3_t_saturation.Kinds as t-saturation-kinds
 use Rattle.region3_c.proofs.r3_t_saturation.Reads as t-saturation
+use Rattle.region3_c.proofs.r3_p_border.Kinds as p-border-kinds
+use Rattle.region3_c.proofs.r3_p_border.Reads as p-border
+use Rattle.region3_c.proofs.r3_t_border.Kinds as t-border-kinds
+use Rattle.region3_c.proofs.r3_t_border.Reads as t-border
 use Rattle.region3_c.proofs.r3_letter.Kinds as letter-kinds
 use Rattle.region3_c.proofs.r3_letter.Reads as letter
 use Rattle.region3_c.proofs.r3_td.Kinds as td-kinds
@@ -59,6 +64,14 @@ p-saturation-says κs a e x p = p
 pub t-saturation-says : (κs : Lfts 1) (a : Dens κs t-saturation-kinds.ps) (e : AtExit (endedOf 1 t-saturation-kinds.ps t-saturation-kinds.r) κs) (x : resT t-saturation-kinds.r κs .Denot) → t-saturation.Post κs a x e
     → Exported (T-saturationRule (a .0)) x (now (e .1 .0))
 t-saturation-says κs a e x p = p
+
+pub p-border-says : (κs : Lfts 1) (a : Dens κs p-border-kinds.ps) (e : AtExit (endedOf 1 p-border-kinds.ps p-border-kinds.r) κs) (x : resT p-border-kinds.r κs .Denot) → p-border.Post κs a x e
+    → Exported (B23-T2pRule (a .0)) x (now (e .1 .0))
+p-border-says κs a e x p = p
+
+pub t-border-says : (κs : Lfts 1) (a : Dens κs t-border-kinds.ps) (e : AtExit (endedOf 1 t-border-kinds.ps t-border-kinds.r) κs) (x : resT t-border-kinds.r κs .Denot) → t-border.Post κs a x e
+    → Exported (B23-p2TRule (a .0)) x (now (e .1 .0))
+t-border-says κs a e x p = p
 
 pub letter-says : (κs : Lfts 1) (a : Dens κs letter-kinds.ps) (e : AtExit (endedOf 1 letter-kinds.ps letter-kinds.r) κs) (x : resT letter-kinds.r κs .Denot) → letter.Post κs a x e
     → ExportedLetter (letterRule (a .0) (a .1 .0)) x (now (e .1 .1 .0))

@@ -104,6 +104,14 @@ returns-24 : tie.Need-returns-24
 unfolding replyRule
 returns-24 c = rw (c .before .before .enum-told24 .given .1) (c .row-reply .ensures ∙ ap rowReply (c .before .row .ensures))
 
+returns-25 : tie.Need-returns-25
+unfolding replyRule
+returns-25 c = rw (c .before .before .enum-told25 .given .1) (c .number-reply14 .ensures ∙ ap numberReply (c .before .B23-p2T .ensures))
+
+returns-26 : tie.Need-returns-26
+unfolding replyRule
+returns-26 c = rw (c .before .before .enum-told26 .given .1) (c .number-reply15 .ensures ∙ ap numberReply (c .before .B23-T2p .ensures))
+
 pub answer-spec : {M : Type 1} → statement M
 answer-spec =
     tie.close
@@ -181,6 +189,12 @@ answer-spec =
     (λ c. search needs)
     (λ c κs. search needs)
     (λ c κs. search needs)
+    (λ c. search needs)
+    (λ c κs. search needs)
+    (λ c κs. search needs)
+    (λ c. search needs)
+    (λ c κs. search needs)
+    (λ c κs. search needs)
     returns
     returns-2
     returns-3
@@ -204,4 +218,6 @@ answer-spec =
     returns-21
     returns-22
     returns-23
-    returns-24)
+    returns-24
+    returns-25
+    returns-26)
