@@ -253,13 +253,13 @@ static void columns(void) {
 
 // What this header says by itself.
 static void texts(void) {
-    static const int numbers[] = {R3_ACCEPTED, R3_NOT_FINITE, R3_FIRST, R3_SECOND, R3_STATE, R3_STEP, R3_PROPERTY, R3_COLUMNS};
+    static const int numbers[] = {R3_ACCEPTED, R3_NOT_FINITE, R3_FIRST, R3_SECOND, R3_STATE, R3_STEP, R3_PROPERTY, R3_COLUMNS, R3_BORDER};
     expect(memcmp(r3_version(), R3_VERSION, sizeof R3_VERSION) == 0, "the version", 0, 0);
-    for (int i = 0; i < 8; i++) {
+    for (int i = 0; i < 9; i++) {
         expect(numbers[i] == i, "the refusals are numbered without a gap", i, numbers[i]);
         for (int k = 0; k < i; k++) expect(r3_refusal_text(i) != r3_refusal_text(k), "each refusal has its own text", i, k);
     }
-    expect(strlen(r3_refusal_text(8)) > 0 && r3_refusal_text(8) == r3_refusal_text(-1), "an unknown number has a text", 8, -1);
+    expect(strlen(r3_refusal_text(200)) > 0 && r3_refusal_text(200) == r3_refusal_text(-1), "an unknown number has a text", 200, -1);
 }
 
 // The rounding modes of fenv.h on this processor: to nearest, downward, upward, toward zero.
