@@ -17,11 +17,12 @@ from pathlib import Path
 TOP = Path(__file__).resolve().parent.parent
 
 # The entries that `answers` has: a point of another is answered with 255.
-PORTED = (*range(1, 17), *range(20, 26), 30)
+PORTED = (*range(1, 17), 18, 19, *range(20, 26), 30)
 
 # in the record's order, and by property_id.rs
 FIELDS = {"p": 3, "h": 4, "s": 5, "u": 6, "cv": 7, "cp": 8, "w": 9}
 NUMBERS = {"p": 0, "h": 4, "s": 5, "u": 7, "cv": 9, "cp": 8, "w": 10}
+BORDER = {"B23_p2T": 18, "B23_T2p": 19}
 PAIRS = {"ph2T_reg3": 12, "ph2v_reg3": 13, "ps2T_reg3": 14, "ps2v_reg3": 15, "hs2p_reg3": 16}
 BOUNDARIES = ["3ab", "3cd", "3ef", "3gh", "3ij", "3jk", "3mn", "3op", "3qu", "3rx", "3uv", "3wx"]
 ELSEWHERE = ("p_saturation", "T_saturation", "p2h_3ab")
@@ -36,6 +37,8 @@ def rows_of(function, first, second, letter):
         return [(7, BOUNDARIES.index(second), float(first), 0.0, 0, f"{function}({second}, {first})")]
     if function == "pT2v_3subreg":
         return [(9, ord(letter), float(first), float(second), 0, f"{function}({letter}, {first}, {second})")]
+    if function in BORDER:
+        return [(BORDER[function], 0, float(first), 0.0, 0, f"{function}({first})")]
     a, b = float(first), float(second)
     if function in PAIRS:
         side = "" if letter == "-" else f" by {letter}"

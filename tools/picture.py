@@ -1,6 +1,7 @@
 #!/usr/bin/env python3
 """Draws the subregion letters of region 3 over T and p as an SVG, from the lines of the program `letters` itself:
-tools/picture.py >docs/letters.svg"""
+tools/picture.py >docs/letters.svg
+What is refused with 8, beyond the border with region 2, is grey; the border is the line of R7-97's equation 6."""
 
 import math
 import struct
@@ -47,11 +48,19 @@ def letters(points):
     given = b"".join(struct.pack("<2d", p, t) for p, t in points)
     ran = subprocess.run([TOP / "tools" / "run", "letters"], input=given, stdout=subprocess.PIPE, check=True)
     *lines, _ = ran.stdout.decode().splitlines()
-    return [line.split()[1] for line in lines]
+    found = [line.split()[1:] for line in lines]
+    assert all((letter == "-") == (refusal == "8") for letter, refusal in found)
+    return [letter for letter, _ in found]
+
+
+def border(p):
+    return 0.57254459862746e3 + math.sqrt((p - 0.13918839778870e2) / 0.10192970039326e-2)
 
 
 def colour(letter):
-    """Neighbours in the alphabet lie far apart on the colour circle."""
+    """Neighbours in the alphabet lie far apart on the colour circle; region 2 is grey."""
+    if letter == "-":
+        return "#ddd"
     place = ord(letter) - ord("a")
     return f"hsl({place * 137 % 360} {(45, 60)[place % 2]}% {(78, 68, 84)[place % 3]}%)"
 
@@ -118,8 +127,16 @@ def draw(panel, cells, left, top):
     out.append("</g>")
     for letter, (room, x, y) in label_places(cells).items():
         size = max(9, min(22, room * CELL * 0.7))
+        name = "region 2" if letter == "-" else letter
         out.append(f'<text x="{x * CELL:.1f}" y="{y * CELL + size * 0.35:.1f}" font-size="{size:.0f}" '
-                   f'text-anchor="middle">{letter}</text>')
+                   f'text-anchor="middle">{name}</text>')
+    line = []
+    for share in (k / 200 for k in range(201)):
+        x = (border(panel.p_at(share)) - panel.t[0]) / (panel.t[1] - panel.t[0])
+        if 0 <= x <= 1:
+            line.append(f"{x * wide:.1f} {(1 - share) * high:.1f}")
+    if line:
+        out.append(f'<path d="M{"L".join(line)}" fill="none" stroke="#333" stroke-width="1.5"/>')
     out.append(f'<rect width="{wide}" height="{high}" fill="none" stroke="#333"/>')
     for t in ticks(*panel.t):
         x = (t - panel.t[0]) / (panel.t[1] - panel.t[0]) * wide

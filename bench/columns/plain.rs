@@ -116,6 +116,11 @@ fn wx(p: f64) -> f64 {
     in_ln(p, [0.728052609145380e1, 0.973505869861952e2, 0.147370491183191e2, 0.329196213998375e3, 0.873371668682417e3])
 }
 
+// The border with region 2.
+fn border(p: f64) -> f64 {
+    0.57254459862746e3 + ((p - 0.13918839778870e2) / 0.10192970039326e-2).sqrt()
+}
+
 fn near_critical(p: f64, t: f64) -> u8 {
     if p > 22.11 {
         if t <= uv(p) { b'u' } else if t < ef(p) { b'v' } else if t < wx(p) { b'w' } else { b'x' }
@@ -255,6 +260,9 @@ fn row(p: f64, t: f64) -> (u8, f64, u8) {
     }
     if !(623.15..=863.15).contains(&t) {
         return (0, 0.0, 3);
+    }
+    if t > border(p) {
+        return (0, 0.0, 8);
     }
     let (l, v) = if (t - 647.096).abs() < 1.0e-5 && (p - 22.064).abs() < 1.0e-15 {
         (0, 1.0 / 322.0)

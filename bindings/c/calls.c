@@ -191,6 +191,8 @@ static void all(void) {
     records("r3_hs", 5, r3_hs, 1500, 2900, 3.3, 5.3);
     numbers("r3_p_saturation", 6, r3_p_saturation, 623.15, 647.096);
     numbers("r3_t_saturation", 7, r3_t_saturation, 16.529, 22.064);
+    numbers("r3_p_border", 15, r3_p_border, 623.15, 863.15);
+    numbers("r3_t_border", 16, r3_t_border, 16.529, 100);
     numbers("r3_root", 8, r3_root, 0, 100);
     numbers("r3_logarithm", 9, r3_logarithm, 0, 100);
     numbers("r3_exponential", 10, r3_exponential, -700, 700);

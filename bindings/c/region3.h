@@ -12,15 +12,15 @@
  *  - A pointer is to live memory of the size that its type or its length says, aligned, and no memory that a call writes overlaps other memory
  *    of that call.
  *  - The processor rounds to nearest, ties to even, as every C program starts. In another rounding mode (fesetround, or a library that sets one)
- *    13 of the 15 calls answered other bits at some of a thousand points. r3_rounds_to_nearest() tells which it is. Flush-to-zero changed none
- *    of 14 calls, tried at a point each; where a step is subnormal it can: 1e-160 squared by r3_power is then 0.
+ *    15 of the 17 calls answered other bits at some of a thousand points. r3_rounds_to_nearest() tells which it is. Flush-to-zero changed none
+ *    of the first 14 calls, tried at a point each; where a step is subnormal it can: 1e-160 squared by r3_power is then 0.
  *
  * What a number is worth (docs/DIFFERENCES.md has each with its input):
  *  - Letter l lacks the last term of its published equation, as the Rust has it: v is up to 4.1 percent low, and on an even grid over l 12
  *    percent of the points come back from r3_pt with a p more than 1e-4 of it off, at most 0.5 percent.
  *  - R3_OE, R3_OIJTC, R3_OFI and R3_OFU are the Rust's formulas and not what their names say: see each below.
- *  - The ranges are wider than region 3: beyond the border with region 2 (above some 636 K at 18 MPa) and inside the saturation dome the calls
- *    answer numbers that mean nothing, a cp below 0 among them.
+ *  - Of (T,d) the ranges are wider than region 3: inside the saturation dome, and where the p of a state lies beyond the border with region 2, the
+ *    calls answer numbers that mean nothing, a cp below 0 among them. A p and a T beyond that border are refused with R3_BORDER.
  *  - At p = 100, the end of the range, half of all r3_pt calls are R3_STATE: the p of the found state comes out a little above 100. At 99.99 none
  *    of 4,001 was.
  *
@@ -31,8 +31,8 @@
 #ifndef REGION3_H
 #define REGION3_H
 
-#define R3_VERSION "0.2.0"
-#define R3_VERSION_NUMBER 200 /* 10000 * first + 100 * second + third */
+#define R3_VERSION "0.3.0"
+#define R3_VERSION_NUMBER 300 /* 10000 * first + 100 * second + third */
 
 #ifdef __cplusplus
 extern "C" {
@@ -41,7 +41,7 @@ extern "C" {
 typedef __SIZE_TYPE__ r3_size;
 typedef unsigned char r3_byte;
 
-/* Why a call is refused, in the order in which it is found: 7, 6, 1, 2, 3, then 4 or 5 at the first step that meets either. Later versions add
+/* Why a call is refused, in the order in which it is found: 7, 6, 1, 2, 3, 8, then 4 or 5 at the first step that meets either. Later versions add
  * numbers: anything but 0 is a refusal. */
 enum {
     R3_ACCEPTED = 0,   /* accepted */
@@ -51,7 +51,8 @@ enum {
     R3_STATE = 4,      /* a p, T or d of the state, worked out by the call, is outside its range */
     R3_STEP = 5,       /* a step gives a number that is not finite, or a root of a negative or a logarithm of a number not above 0 is taken */
     R3_PROPERTY = 6,   /* the property's number is unknown */
-    R3_COLUMNS = 7     /* the columns are of unequal length */
+    R3_COLUMNS = 7,    /* the columns are of unequal length */
+    R3_BORDER = 8      /* T is above the border with region 2 at p: r3_pt, r3_letter, a row of r3_columns */
 };
 
 /* The places of a record. */
@@ -130,6 +131,11 @@ r3_byte r3_columns(
 r3_byte r3_p_saturation(double t, double *out);
 r3_byte r3_t_saturation(double p, double *out);
 
+/* The border with region 2 (R7-97, equations 5 and 6): MPa at a T from 623.15 to 863.15, K at a p from 16.529 to 100. A T that equals
+ * r3_t_border's is accepted by the calls that take p and T; the next double above it is R3_BORDER. */
+r3_byte r3_p_border(double t, double *out);
+r3_byte r3_t_border(double p, double *out);
+
 /* The four written rules: a to the n, n from -64 to 64; the nearest root; the logarithm's series; the exponential's, x from -700 to 700. */
 r3_byte r3_power(double a, int n, double *out);
 r3_byte r3_root(double x, double *out);
@@ -150,6 +156,7 @@ static __inline__ const char *r3_refusal_text(int number) {
     case R3_STEP: return "a step gives a number that is not finite";
     case R3_PROPERTY: return "the property's number is unknown";
     case R3_COLUMNS: return "the columns are of unequal length";
+    case R3_BORDER: return "T is above the border with region 2";
     }
     return "refused, by a number that this header does not know";
 }

@@ -240,6 +240,14 @@ static void refusals(void) {
     expect(r3_letter(101, 650, &letter) == R3_FIRST && letter == 0, "a refused letter", 101, 650);
     double x;
     expect(r3_p_saturation(650, &x) == R3_FIRST && same(x, 0.0), "above the saturation line", 650, 0);
+    expect(r3_p_border(623.15, &x) == R3_ACCEPTED && printed(x, 16.5291643, 9), "p_border(623.15), R7-97", 623.15, 0);
+    expect(r3_t_border(16.5291643, &x) == R3_ACCEPTED && printed(x, 623.15, 9), "t_border(16.5291643), R7-97", 16.5291643, 0);
+    expect(r3_t_border(101, &x) == R3_FIRST && same(x, 0.0), "above the border's pressures", 101, 0);
+    expect(r3_pt(18, 640, r) == R3_BORDER && zeros(r, R3_FIELDS), "beyond the border with region 2", 18, 640);
+    expect(r3_pt(18, 635.8209528593616, r) == R3_ACCEPTED, "on the border with region 2", 18, 635.8209528593616);
+    expect(r3_pt(18, 635.8209528593617, r) == R3_BORDER, "the next double above the border", 18, 635.8209528593617);
+    expect(r3_pt(101, 900, r) == R3_FIRST && r3_pt(18, 900, r) == R3_SECOND, "8 comes after 2 and 3", 101, 900);
+    expect(r3_letter(100, 863.15, &letter) == R3_BORDER && letter == 0, "both ends of the box", 100, 863.15);
     expect(r3_t_saturation(16.5, &x) == R3_FIRST && same(x, 0.0), "below the saturation line", 16.5, 0);
 }
 
@@ -264,13 +272,13 @@ static void columns(void) {
 
 // What this header says by itself.
 static void texts(void) {
-    static const int numbers[] = {R3_ACCEPTED, R3_NOT_FINITE, R3_FIRST, R3_SECOND, R3_STATE, R3_STEP, R3_PROPERTY, R3_COLUMNS};
+    static const int numbers[] = {R3_ACCEPTED, R3_NOT_FINITE, R3_FIRST, R3_SECOND, R3_STATE, R3_STEP, R3_PROPERTY, R3_COLUMNS, R3_BORDER};
     expect(memcmp(r3_version(), R3_VERSION, sizeof R3_VERSION) == 0, "the version", 0, 0);
-    for (int i = 0; i < 8; i++) {
+    for (int i = 0; i < 9; i++) {
         expect(numbers[i] == i, "the refusals are numbered without a gap", i, numbers[i]);
         for (int k = 0; k < i; k++) expect(r3_refusal_text(i) != r3_refusal_text(k), "each refusal has its own text", i, k);
     }
-    expect(strlen(r3_refusal_text(8)) > 0 && r3_refusal_text(8) == r3_refusal_text(-1), "an unknown number has a text", 8, -1);
+    expect(strlen(r3_refusal_text(200)) > 0 && r3_refusal_text(200) == r3_refusal_text(-1), "an unknown number has a text", 200, -1);
 }
 
 // The rounding modes of fenv.h on this processor: to nearest, downward, upward, toward zero.
@@ -282,7 +290,7 @@ static const int modes[] = {0, 0x800000, 0x400000, 0xc00000};
 #error "the rounding modes of this processor are not known here"
 #endif
 
-enum { CALLS = 15, POINTS = 1000 };
+enum { CALLS = 17, POINTS = 1000 };
 
 struct answer {
     double numbers[R3_FIELDS];
@@ -321,6 +329,8 @@ static void call_all(struct point z, struct answer *a) {
     a[12].refusal = r3_logarithm(z.x, a[12].numbers);
     a[13].refusal = r3_exponential(z.x, a[13].numbers);
     a[14].refusal = r3_cp_w(z.t, z.d, a[14].numbers, a[14].numbers + 1, &a[14].of_row);
+    a[15].refusal = r3_p_border(z.t, a[15].numbers);
+    a[16].refusal = r3_t_border(z.p, a[16].numbers);
 }
 
 // The check of the rounding mode agrees with fegetround. Why it is there: how many calls answer other bits in another mode is printed.

@@ -15,7 +15,7 @@ use std::{env, fs, process};
 /// The crate's modules that the port takes, with the files that make each up.
 const MODULES: [(&str, &[&str]); 4] = [
     ("algo", &["polynomial", "polynomial_steps"]),
-    ("common", &["constant", "property_id"]),
+    ("common", &["boundaries", "constant", "property_id"]),
     (
         "r3",
         &[

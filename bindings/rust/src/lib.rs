@@ -21,8 +21,8 @@
 //! - **Letter l** lacks the last term of its published equation, as the Rust has it: v is up to 4.1 percent low, and on an even grid over l 12 percent
 //!   of the points come back from [`pt`] with a p more than 1e-4 of it off, at most 0.5 percent.
 //! - **[`Property::OE`], [`Property::OIJTC`], [`Property::OFI`], [`Property::OFU`]** are not what their names say; each says by how much.
-//! - **The ranges are wider than region 3.** Beyond the border with region 2 (above some 636 K at 18 MPa) and inside the saturation dome the calls
-//!   answer numbers that mean nothing, a negative heat capacity among them.
+//! - **Of (T,d) the ranges are wider than region 3.** Inside the saturation dome, and where the p of a state lies beyond the border with region 2, the
+//!   calls answer numbers that mean nothing, a negative heat capacity among them. A p and a T beyond that border are [`Refusal::Border`].
 //! - **At p = 100 MPa**, the end of the range, half of all [`pt`] calls are refused with [`Refusal::State`]: the p of the found state comes out a little
 //!   above 100. At 99.99 none of 4,001 was.
 //!
@@ -201,6 +201,19 @@ pub fn p_saturation(t: Kelvin) -> Result<MPa, Refusal> {
 pub fn t_saturation(p: MPa) -> Result<Kelvin, Refusal> {
     // SAFETY: out is a number of ours, and the call keeps no pointer.
     number(|out| unsafe { raw::r3_t_saturation(p.0, out) }).map(Kelvin)
+}
+
+/// The pressure of the border with region 2 at a temperature from 623.15 to 863.15 K (R7-97, equation 5).
+pub fn p_border(t: Kelvin) -> Result<MPa, Refusal> {
+    // SAFETY: out is a number of ours, and the call keeps no pointer.
+    number(|out| unsafe { raw::r3_p_border(t.0, out) }).map(MPa)
+}
+
+/// The temperature of the border with region 2 at a pressure from 16.529 to 100 MPa (R7-97, equation 6). [`pt`], [`letter`] and the rows of [`columns`]
+/// accept a T that equals it and refuse one above it with [`Refusal::Border`].
+pub fn t_border(p: MPa) -> Result<Kelvin, Refusal> {
+    // SAFETY: out is a number of ours, and the call keeps no pointer.
+    number(|out| unsafe { raw::r3_t_border(p.0, out) }).map(Kelvin)
 }
 
 /// a to the n by the bits of n, for n from -64 to 64.

@@ -10,6 +10,8 @@ extern "C" {
     pub fn r3_letter(p: f64, t: f64, letter: *mut u8) -> u8;
     pub fn r3_p_saturation(t: f64, out: *mut f64) -> u8;
     pub fn r3_t_saturation(p: f64, out: *mut f64) -> u8;
+    pub fn r3_p_border(t: f64, out: *mut f64) -> u8;
+    pub fn r3_t_border(p: f64, out: *mut f64) -> u8;
     pub fn r3_power(a: f64, n: i32, out: *mut f64) -> u8;
     pub fn r3_root(x: f64, out: *mut f64) -> u8;
     pub fn r3_logarithm(x: f64, out: *mut f64) -> u8;

@@ -2,7 +2,7 @@ use std::fmt;
 
 /// Why a call is refused.
 ///
-/// They are looked for in the order 7, 6, 1, 2, 3, then 4 or 5 at the first step that meets either. Later versions of the library add numbers.
+/// They are looked for in the order 7, 6, 1, 2, 3, 8, then 4 or 5 at the first step that meets either. Later versions of the library add numbers.
 #[derive(Clone, Copy, Debug, PartialEq, Eq, Hash)]
 #[non_exhaustive]
 pub enum Refusal {
@@ -20,6 +20,8 @@ pub enum Refusal {
     Property,
     /// 7: the columns are of unequal length.
     Columns,
+    /// 8: T is above the border with region 2 at p.
+    Border,
     /// A number that this version of the crate does not know: the library is newer than the crate.
     Other(
         /// The number, which is not 0.
@@ -39,6 +41,7 @@ impl Refusal {
             5 => Refusal::Step,
             6 => Refusal::Property,
             7 => Refusal::Columns,
+            8 => Refusal::Border,
             other => Refusal::Other(other),
         })
     }
@@ -53,6 +56,7 @@ impl Refusal {
             Refusal::Step => 5,
             Refusal::Property => 6,
             Refusal::Columns => 7,
+            Refusal::Border => 8,
             Refusal::Other(number) => number,
         }
     }
@@ -68,6 +72,7 @@ impl fmt::Display for Refusal {
             Refusal::Step => "a step gives a number that is not finite",
             Refusal::Property => "the property's number is unknown",
             Refusal::Columns => "the columns are of unequal length",
+            Refusal::Border => "T is above the border with region 2",
             Refusal::Other(number) => return write!(f, "refused with {number}, which this version of the crate does not know"),
         })
     }

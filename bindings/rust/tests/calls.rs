@@ -74,6 +74,19 @@ fn the_saturation_line() {
 }
 
 #[test]
+fn the_border_with_region_2() {
+    assert!(printed(p_border(Kelvin(623.15)).unwrap().0, 16.5291643, 9));
+    assert!(printed(t_border(MPa(16.5291643)).unwrap().0, 623.15, 9));
+    assert_eq!(t_border(MPa(101.0)), Err(Refusal::First));
+    let border = t_border(MPa(18.0)).unwrap();
+    let above = Kelvin(f64::from_bits(border.0.to_bits() + 1));
+    assert_eq!(letter(MPa(18.0), border), Ok('t'));
+    assert_eq!(letter(MPa(18.0), above), Err(Refusal::Border));
+    assert_eq!(pt(MPa(18.0), Kelvin(640.0)), Err(Refusal::Border));
+    assert_eq!(pt(MPa(18.0), Kelvin(900.0)), Err(Refusal::Second));
+}
+
+#[test]
 fn letters_and_refusals() {
     assert_eq!(letter(MPa(24.0), Kelvin(650.0)), Ok('g'));
     assert_eq!(letter(MPa(101.0), Kelvin(900.0)), Err(Refusal::First));
@@ -87,8 +100,9 @@ fn every_number_but_0_is_a_refusal() {
     assert_eq!(Refusal::of(0), None);
     assert!((1..=255).all(|k| Refusal::of(k).map(Refusal::number) == Some(k)));
     assert_eq!(Refusal::of(7), Some(Refusal::Columns));
-    assert_eq!(Refusal::of(8), Some(Refusal::Other(8)));
-    assert!(Refusal::Other(8).to_string().contains('8'));
+    assert_eq!(Refusal::of(8), Some(Refusal::Border));
+    assert_eq!(Refusal::of(200), Some(Refusal::Other(200)));
+    assert!(Refusal::Other(200).to_string().contains("200"));
 }
 
 #[test]

@@ -14,6 +14,7 @@ use Rattle.rules.specs.Power.{powerRule}
 use Rattle.rules.specs.Root.{rootRule, nearestRoot, wholeRoot}
 use Rattle.rules.specs.Log.{logarithmRule, L as ln2}
 use Rattle.rules.specs.Exp.{exponentialRule}
+use Rattle.border.specs.Border.{region3Box, besideBorder, B23-p2T}
 use Rattle.r4.specs.Saturation.{p-saturation, T-saturation}
 use Rattle.boundary.specs.Boundary.{boundaryRule, formRule, straight3ef, table3ab, table3cd, table3gh, table3ij, table3jk}
 use Rattle.boundary.specs.Choice.{letterRule, letterAt, limit, abRule, cdefRule, chijkRule, ctRule}
@@ -72,14 +73,18 @@ points =
     ∷ (letter (whole 50) (whole 700) gives is A)
     ∷ (letter (whole 50) (whole 720) gives is B)
     ∷ (letter (whole 18) (whole 625) gives is C)
-    ∷ (letter (whole 18) (whole 640) gives is T)
+    ∷ (letter (whole 18) (decimal 635_8209528593616 13) gives is T)
+    ∷ (letter (whole 18) (decimal 635_8209528593617 13) gives taken (refused 8))
+    ∷ (letter (whole 18) (whole 640) gives taken (refused 8))
     ∷ (letter (whole 24) (decimal 623_15 2) gives is C)
     ∷ (letter (whole 24) (decimal 623_149 3) gives taken (refused 3))
     ∷ (letter nan (whole 900) gives taken (refused 1))
     ∷ (letter (whole 101) (whole 900) gives taken (refused 2))
+    ∷ (letter (whole 100) (decimal 863_15 2) gives taken (refused 8))
+    ∷ (letter (whole 100) (decimal 863_1499999999929 13) gives is B)
     ∷ (root (neg (whole 1)) gives number· (refused 5))
     ∷ []
 
 pub points-hold : map got points ≡ map wanted points
-unfolding got wanted points letterRule letterAt limit p-saturation T-saturation abRule cdefRule chijkRule ctRule boundaryRule formRule straight3ef total table3ab table3cd table3gh table3ij table3jk powerRule rootRule nearestRoot wholeRoot logarithmRule ln2 exponentialRule inUnits decimal whole plus minus scaled round neg add sub sum mul div ofInt le lt eq
+unfolding got wanted points letterRule region3Box besideBorder B23-p2T letterAt limit p-saturation T-saturation abRule cdefRule chijkRule ctRule boundaryRule formRule straight3ef total table3ab table3cd table3gh table3ij table3jk powerRule rootRule nearestRoot wholeRoot logarithmRule ln2 exponentialRule inUnits decimal whole plus minus scaled round neg add sub sum mul div ofInt le lt eq
 points-hold = refl

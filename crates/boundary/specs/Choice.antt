@@ -4,7 +4,7 @@ use mathlib.Core.Bool.{cond}
 use lib.Ieee.{Float, lt}
 use Rattle.common.specs.Outcome.{Outcome, value, then}
 use Rattle.common.specs.Decimal.{decimal}
-use Rattle.common.specs.Range.{pTBox}
+use Rattle.border.specs.Border.{region3Box}
 use Rattle.subregion.specs.declared.Letter.{Letter}
 use Rattle.subregion.specs.declared.Letter.the-variants.{G, L}
 use Rattle.r4.specs.Saturation.{p-saturation, T-saturation}
@@ -99,7 +99,7 @@ unfoldable pub letterAt : Float → Float → Outcome Letter
 unfolding limit
 letterAt p t = then limit (λ l. inBand (bandOf l p) p t)
 
--- the call: the box first
+-- the call: the box and the border with region 2 first
 unfoldable pub letterRule : Float → Float → Outcome Letter
-unfolding letterAt
-letterRule p t = then (pTBox p t) (λ _. letterAt p t)
+unfolding letterAt region3Box
+letterRule p t = then (region3Box p t) (λ _. letterAt p t)

@@ -1,6 +1,7 @@
 // The bands by p. Each works its boundaries out, tests once that none is lost, and hands them to its chooser.
 use crate::Boundary;
 use crate::boundaries::raw_boundary;
+use border::check_region3;
 use choosers::Near;
 use choosers::by_ab;
 use choosers::by_cdef;
@@ -17,7 +18,6 @@ use common::Kelvin;
 use common::MPa;
 use common::Refusal;
 use common::Verdict;
-use common::check_pT;
 use common::is_finite;
 use r4::raw_T_saturation;
 use subregion::Letter;
@@ -239,11 +239,11 @@ pub fn letter_at(p: MPa, t: Kelvin) -> LetterAnswer
     by_bands(p.0, t.0)
 }
 
-// The letter of the subregion that (p, t) lies in.
+// The letter of the subregion that (p, t) lies in: refused with 8 beyond the border with region 2.
 pub fn sub_region3_pT(p: MPa, t: Kelvin) -> LetterAnswer
     ensures { λ r. ⌜ paperLetter r ≡ letterRule (p .0) (t .0) ⌝ }
 {
-    match check_pT(p, t) {
+    match check_region3(p, t) {
         Verdict::Accepted => letter_at(p, t),
         Verdict::Refused(k) => LetterAnswer::Refused(k),
     }

@@ -8,11 +8,11 @@ use lib.Ieee.{Float, nan, inf, le}
 use Rattle.common.specs.Outcome.{Outcome, numberIn}
 use Rattle.common.specs.Answer.{numberOf}
 use Rattle.common.specs.Decimal.{decimal, whole, scaled}
-use Rattle.common.specs.Range.{pTBox, TdBox, phBox, psBox, hsBox, pBox, saturatedPBox, saturatedTBox, saturatedBox}
+use Rattle.common.specs.Range.{pTBox, TdBox, phBox, psBox, hsBox, pBox, TBox, saturatedPBox, saturatedTBox, saturatedBox}
 use Rattle.common.specs.declared.Refusal.{Refusal}
-use Rattle.common.specs.declared.Refusal.the-variants.{NotFinite, First, Second, State, Step, Property, Columns}
+use Rattle.common.specs.declared.Refusal.the-variants.{NotFinite, First, Second, State, Step, Property, Columns, Border}
 
-pub refusals : map numberOf (NotFinite ∷ First ∷ Second ∷ State ∷ Step ∷ Property ∷ Columns ∷ []) ≡ 1 ∷ 2 ∷ 3 ∷ 4 ∷ 5 ∷ 6 ∷ 7 ∷ []
+pub refusals : map numberOf (NotFinite ∷ First ∷ Second ∷ State ∷ Step ∷ Property ∷ Columns ∷ Border ∷ []) ≡ 1 ∷ 2 ∷ 3 ∷ 4 ∷ 5 ∷ 6 ∷ 7 ∷ 8 ∷ []
 refusals = refl
 
 -- each box at its lower ends, at its upper ends, just below the first, just above the first, just below the second, just above the second
@@ -54,6 +54,10 @@ ends box a A a' A' = map numberIn (box a ∷ box A ∷ box a' ∷ box A' ∷ box
 pub p-ends : ends pBox (decimal 16_529 3) (whole 100) (decimal 16_5289999 7) (decimal 100_0000001 7) ≡ 0 ∷ 0 ∷ 2 ∷ 2 ∷ 1 ∷ 1 ∷ []
 unfolding le decimal whole scaled
 p-ends = refl
+
+pub t-ends : ends TBox (decimal 623_15 2) (decimal 863_15 2) (decimal 623_1499999 7) (decimal 863_1500001 7) ≡ 0 ∷ 0 ∷ 2 ∷ 2 ∷ 1 ∷ 1 ∷ []
+unfolding le decimal whole scaled
+t-ends = refl
 
 pub saturated-p-ends : ends saturatedPBox (decimal 16_529 3) (decimal 22_064 3) (decimal 16_5289999 7) (decimal 22_0640001 7) ≡ 0 ∷ 0 ∷ 2 ∷ 2 ∷ 1 ∷ 1 ∷ []
 unfolding le decimal whole scaled

@@ -37,9 +37,12 @@ psBox p s = pairRule P-FROM P-TO p S-FROM S-TO s
 abbrev pub hsBox : Float → Float → Outcome Unit
 hsBox h s = pairRule H-FROM H-TO h S-FROM S-TO s
 
--- a boundary of region 3
+-- a boundary of region 3, and its border with region 2
 abbrev pub pBox : Float → Outcome Unit
 pBox p = onlyRule P-FROM P-TO p
+
+abbrev pub TBox : Float → Outcome Unit
+TBox t = onlyRule T-FROM T-TO t
 
 -- on the saturation line
 abbrev pub saturatedPBox : Float → Outcome Unit

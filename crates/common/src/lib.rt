@@ -34,6 +34,7 @@ pub enum Refusal {
     Step,
     Property,
     Columns,
+    Border,
 }
 
 // The answer of a call for one number.
@@ -256,6 +257,7 @@ pub fn number(k: Refusal) -> u8
         Refusal::Step => 5,
         Refusal::Property => 6,
         Refusal::Columns => 7,
+        Refusal::Border => 8,
     }
 }
 

@@ -1,4 +1,4 @@
--- Demand 3. For two f64s 23 < p ≤ 25 and 623.15 ≤ T ≤ 863.15, where T lies a millionth of a kelvin or more from each of the five boundary
+-- Demand 3. For two f64s 23 < p ≤ 25 and 623.15 ≤ T ≤ 863.15, T not above the border with region 2, where T lies a millionth of a kelvin or more from each of the five boundary
 -- temperatures, worked out exactly, the letter choice accepts and gives the letter that exact arithmetic gives. Assumes nothing.
 use mathlib.Core.Path.{_≡_, refl, sym, ap, _∙_, subst}
 use Prim.Native.Nat.{ℕ, _+_, _*_, _^_, _≤_, _<_}
@@ -14,10 +14,13 @@ use lib.Ieee.Fits.{and-l, and-r}
 use lib.Ieee.Bits.{is-true, is-false}
 use lib.Ieee.Exact.{HasValue}
 use lib.Ieee.Positive.{positive, between, le-trans-positive}
-use Rattle.common.specs.Outcome.{Outcome, value, refused, then}
+use Rattle.common.specs.Outcome.{Outcome, value, refused, then, valueIn}
 use Rattle.common.specs.Decimal.{whole, decimal, scaled}
 use Rattle.common.specs.Constant.{P-FROM, P-TO, T-FROM, T-TO}
 use Rattle.common.specs.Range.{pTBox}
+use Rattle.border.specs.Border.{B23-p2TRule, region3Box}
+use Rattle.border.proofs.Order.{not-below}
+use Rattle.border.proofs.Never.{borderAt, never-lost, eight-alone}
 use Rattle.common.specs.Sum.{every}
 use Rattle.common.proofs.Sums.{both-left, both-right}
 use Rattle.rounding.specs.Fraction.{ratio, atMost, scaledBy}
@@ -111,16 +114,32 @@ module _ (p t : Float) (i : Inside p t) where
   whole-t = whole-from 9 43 refl T-FROM t tt positive-t (i .t-f64) tt (i .t-from)
 
   -- ---- the box
+  in-box : T (le p P-TO)
+  in-box = p-box p (i .p-f64) 25 (zero-lt-suc 24) (lit≤ tt) from-16 (i .p-upto)
+
   box : pTBox p t ≡ value tt
   box =
       rw (
         p-finite p (i .p-f64) 25 (zero-lt-suc 24) (lit≤ tt) from-16 (i .p-upto),
         finite-value t n (2 ^ 43) whole-t,
         is-true (le P-FROM p) from-16,
-        is-true (le p P-TO) (p-box p (i .p-f64) 25 (zero-lt-suc 24) (lit≤ tt) from-16 (i .p-upto)),
+        is-true (le p P-TO) in-box,
         is-true (le T-FROM t) (i .t-from),
         is-true (le t T-TO) (i .t-to),
       )
+
+  -- ---- the border
+  border : B23-p2TRule p ≡ value (borderAt p)
+  unfolding B23-p2TRule
+  border =
+      rw (p-finite p (i .p-f64) 25 (zero-lt-suc 24) (lit≤ tt) from-16 (i .p-upto), is-true (le P-FROM p) from-16, is-true (le p P-TO) in-box)
+      (never-lost p from-16 in-box)
+
+  this-side : lt (borderAt p) t ≡ false
+  this-side = not-below (borderAt p) t positive-t (subst (λ (o : Outcome Float). T (le t (valueIn o))) border (i .t-border))
+
+  region-3 : region3Box p t ≡ value tt
+  region-3 = eight-alone p t box ∙ ap (λ (b : Bool). cond b (refused 8) (value tt)) this-side
 
   -- ---- the band
   not-above : (N : ℕ) → 25 ≤ N → N ≤ 100 → lt (whole N) p ≡ false
@@ -172,7 +191,7 @@ module _ (p t : Float) (i : Inside p t) where
     accepted : letterRule p t ≡ value (exactLetter P n)
     unfolding letterRule letterAt
     accepted =
-        ap (λ (o : Outcome Unit). then o (λ _. letterAt p t)) box
+        ap (λ (o : Outcome Unit). then o (λ _. letterAt p t)) region-3
         ∙ ap (λ (o : Outcome Float). then o (λ l. inBand (bandOf l p) p t)) limit-is
         ∙ ap (λ (b : Band). inBand b p t) (band (ofBits binary64 0x40350b1a1ee0b6d0))
         ∙ in-band lower

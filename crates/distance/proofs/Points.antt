@@ -6,11 +6,15 @@ use mathlib.Core.Bool.{Bool, true, false, _&&_, _||_}
 use mathlib.Core.List.{List, [], _∷_, map}
 use lib.Dec.{T, leb, leb→le}
 use lib.Ieee.Fits.{and-l, and-r}
-use lib.Ieee.{Float, binary64, round, fits, le, lt, eq}
-use Rattle.common.specs.Decimal.{decimal, whole, scaled}
+use lib.Ieee.{Float, binary64, round, neg, add, sub, sum, div, fits, le, lt, eq}
+use Rattle.common.specs.Outcome.{valueIn}
+use Rattle.common.specs.Decimal.{decimal, whole, scaled, plus}
 use Rattle.common.specs.Constant.{T-FROM, T-TO}
 use Rattle.common.specs.Sum.{every}
 use Rattle.common.proofs.Sums.{both-left, both-right}
+use Rattle.rules.specs.Units.{inUnits}
+use Rattle.rules.specs.Root.{rootRule, nearestRoot, wholeRoot}
+use Rattle.border.specs.Border.{B23-p2T, B23-p2TRule}
 use Rattle.rounding.specs.Fraction.{side, scaledBy, sumOver}
 use Rattle.subregion.specs.declared.Letter.{Letter}
 use Rattle.subregion.specs.declared.Letter.the-variants.{C, G, H, I, J, K, L}
@@ -39,7 +43,7 @@ points =
     ∷ at (decimal 23_2 1) (whole 651) H
     ∷ at (decimal 23_2 1) (whole 652) I
     ∷ at (decimal 23_2 1) (whole 655) J
-    ∷ at (decimal 23_2 1) (whole 670) K
+    ∷ at (decimal 23_2 1) (whole 665) K
     ∷ []
 
 abbrev exactAt : Point → Letter
@@ -75,7 +79,7 @@ all-of f F h [] t = tt
 all-of f F h (x ∷ xs) t = (h x (both-left (f x) (every f xs) t), all-of f F h xs (both-right (f x) (every f xs) t))
 
 abbrev placed : Float → Float → List Bool
-placed p t = fits binary64 p ∷ fits binary64 t ∷ lt (whole 23) p ∷ le p (whole 25) ∷ le T-FROM t ∷ le t T-TO ∷ []
+placed p t = fits binary64 p ∷ fits binary64 t ∷ lt (whole 23) p ∷ le p (whole 25) ∷ le T-FROM t ∷ le t T-TO ∷ le t (valueIn (B23-p2TRule p)) ∷ []
 
 abbrev meets : Point → Bool
 meets x = every (λ b. b) (placed (x .p) (x .t)) && every (λ b. off b (scaledBy 48 (x .p)) (scaledBy 43 (x .t))) five
@@ -93,10 +97,10 @@ met x h =
     let o = every (λ b. off b P n) five in
     let e = all-of (λ b. b) T (λ b t. t) (placed (x .p) (x .t)) (and-l a o h) in
     record {
-      inside = record { p-f64 = e .0; t-f64 = e .1 .0; p-above = e .1 .1 .0; p-upto = e .1 .1 .1 .0; t-from = e .1 .1 .1 .1 .0; t-to = e .1 .1 .1 .1 .1 .0 };
+      inside = record { p-f64 = e .0; t-f64 = e .1 .0; p-above = e .1 .1 .0; p-upto = e .1 .1 .1 .0; t-from = e .1 .1 .1 .1 .0; t-to = e .1 .1 .1 .1 .1 .0; t-border = e .1 .1 .1 .1 .1 .1 .0 };
       clear = all-of (λ b. off b P n) (λ b. Off b P n) (λ b t. off→ b P n t) five (and-r a o h);
     }
 
 pub points-met : All Met points
-unfolding points every temperature sumOver scaledBy whole decimal scaled round fits lt le eq
+unfolding points every temperature sumOver scaledBy B23-p2TRule B23-p2T rootRule nearestRoot wholeRoot inUnits whole decimal plus scaled round neg add sub sum div fits lt le eq
 points-met = all-of meets Met met points tt

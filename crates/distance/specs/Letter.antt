@@ -5,8 +5,10 @@ use Prim.Native.Nat.{ℕ, _^_}
 use mathlib.Core.List.{List, [], _∷_}
 use lib.Dec.{T}
 use lib.Ieee.{Float, binary64, fits, le, lt}
+use Rattle.common.specs.Outcome.{valueIn}
 use Rattle.common.specs.Decimal.{whole}
 use Rattle.common.specs.Constant.{T-FROM, T-TO}
+use Rattle.border.specs.Border.{B23-p2TRule}
 use Rattle.rounding.specs.Fraction.{Fraction, ratio, atMost, Apart}
 use Rattle.subregion.specs.declared.Letter.{Letter}
 use Rattle.subregion.specs.declared.Letter.the-variants.{C, G, H, I, J, K, L}
@@ -39,7 +41,7 @@ unfoldable pub exactLetter : ℕ → ℕ → Letter
 unfolding lettersWith
 exactLetter P t = lettersWith (cond (atMost (ratio P Q) (ratio 23_5 10)) L G) P t
 
--- two f64s, 23 < p ≤ 25 and 623.15 ≤ t ≤ 863.15
+-- two f64s, 23 < p ≤ 25 and 623.15 ≤ t ≤ 863.15, and t is not above the border with region 2 as `B23_p2T` answers it
 pub record Inside (p t : Float) : Type 0 where
   pub p-f64 : T (fits binary64 p)
   pub t-f64 : T (fits binary64 t)
@@ -47,6 +49,7 @@ pub record Inside (p t : Float) : Type 0 where
   pub p-upto : T (le p (whole 25))
   pub t-from : T (le T-FROM t)
   pub t-to : T (le t T-TO)
+  pub t-border : T (le t (valueIn (B23-p2TRule p)))
 
 -- a millionth of a kelvin
 abbrev pub tolerance : ℕ

@@ -9,6 +9,7 @@ use Rattle.rules.specs.Root.{rootRule}
 use Rattle.rules.specs.Log.{logarithmRule}
 use Rattle.rules.specs.Exp.{exponentialRule}
 use Rattle.r4.specs.Saturation.{p-saturationRule, T-saturationRule}
+use Rattle.border.specs.Border.{B23-p2TRule, B23-T2pRule}
 use Rattle.boundary.specs.declared.Boundary.{Boundary}
 use Rattle.boundary.specs.declared.Boundary.the-variants.{Ab, Cd, Ef, Gh, Ij, Jk, Mn, Op, Qu, Rx, Uv, Wx}
 use Rattle.boundary.specs.Boundary.{boundaryRule}
@@ -72,4 +73,6 @@ replyRule entry.PsRecord n a b = recordReply (report (psRule a b))
 replyRule entry.HsRecord n a b = recordReply (report (hsRule a b))
 replyRule entry.Property n a b = numberReply (propertyRule n a b)
 replyRule entry.ColumnRow n a b = rowReply (rowRule a b)
+replyRule entry.BorderT n a b = numberReply (B23-p2TRule a)
+replyRule entry.BorderP n a b = numberReply (B23-T2pRule a)
 replyRule entry.CpW n a b = cpWReply (cpAndWRule a b)

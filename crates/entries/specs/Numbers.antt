@@ -3,13 +3,13 @@ use Prim.Native.Nat.{ℕ}
 use mathlib.Core.List.{List, [], _∷_}
 use lib.ListN.{getD}
 use Rattle.entries.specs.declared.Entry.{Entry}
-use Rattle.entries.specs.declared.Entry.the-variants.{Unnamed, Power, Root, Logarithm, Exponential, PSaturation, TSaturation, Boundary, Letter, LetterVolume, Volume, PhaseVolume, PhT, PhV, PsT, PsV, HsP, TdRecord, PtRecord, PhRecord, PsRecord, HsRecord, Property, ColumnRow, CpW}
+use Rattle.entries.specs.declared.Entry.the-variants.{Unnamed, Power, Root, Logarithm, Exponential, PSaturation, TSaturation, Boundary, Letter, LetterVolume, Volume, PhaseVolume, PhT, PhV, PsT, PsV, HsP, TdRecord, PtRecord, PhRecord, PsRecord, HsRecord, Property, ColumnRow, BorderT, BorderP, CpW}
 
 -- 0 to 34
 abbrev pub numbered : List Entry
 numbered =
     Unnamed ∷ Power ∷ Root ∷ Logarithm ∷ Exponential ∷ PSaturation ∷ TSaturation ∷ Boundary ∷ Letter ∷ LetterVolume
-    ∷ Volume ∷ PhaseVolume ∷ PhT ∷ PhV ∷ PsT ∷ PsV ∷ HsP ∷ Unnamed ∷ Unnamed ∷ Unnamed
+    ∷ Volume ∷ PhaseVolume ∷ PhT ∷ PhV ∷ PsT ∷ PsV ∷ HsP ∷ Unnamed ∷ BorderT ∷ BorderP
     ∷ TdRecord ∷ PtRecord ∷ PhRecord ∷ PsRecord ∷ HsRecord ∷ Property ∷ Unnamed ∷ Unnamed ∷ Unnamed ∷ Unnamed
     ∷ ColumnRow ∷ Unnamed ∷ Unnamed ∷ Unnamed ∷ CpW ∷ []
 

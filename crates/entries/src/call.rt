@@ -108,6 +108,8 @@ pub fn answer(entry: Entry, n: i32, a: f64, b: f64) -> Reply
         Entry::HsRecord => record_reply(region3::hs_reg3(blank(), KJPerKg(a), KJPerKgK(b))),
         Entry::Property => number_reply(by_number::Td_thermal_reg3(Kelvin(a), KgPerM3(b), n)),
         Entry::ColumnRow => row_reply(column_run::row(MPa(a), Kelvin(b))),
+        Entry::BorderT => number_reply(border::B23_p2T(MPa(a))),
+        Entry::BorderP => number_reply(border::B23_T2p(Kelvin(a))),
         Entry::CpW => cp_w_reply(by_number::Td2cp_w_reg3(Kelvin(a), KgPerM3(b))),
     }
 }

@@ -29,6 +29,8 @@ pub enum Entry {
     PsT,
     PsV,
     HsP,
+    BorderT,
+    BorderP,
     TdRecord,
     PtRecord,
     PhRecord,

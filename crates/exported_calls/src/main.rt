@@ -26,6 +26,8 @@ fn call_number(entry: u8, n: i32, a: f64, b: f64) -> Reply {
         4 => region3_c::r3_exponential(a, &mut x),
         5 => region3_c::r3_p_saturation(a, &mut x),
         6 => region3_c::r3_t_saturation(a, &mut x),
+        18 => region3_c::r3_t_border(a, &mut x),
+        19 => region3_c::r3_p_border(a, &mut x),
         _ => region3_c::r3_property(n, a, b, &mut x),
     };
     Reply {

@@ -9,7 +9,7 @@ use lib.Ieee.{Float}
 use Rattle.common.specs.Outcome.{Outcome, value, refused, then, check}
 use Rattle.common.specs.Decimal.{whole}
 use Rattle.common.specs.Constant.{DC-WATER}
-use Rattle.common.specs.Range.{pTBox}
+use Rattle.border.specs.Border.{region3Box}
 use Rattle.record.specs.State.{densityOf}
 use Rattle.subregion.specs.Letter.{byteIn}
 use Rattle.subregion.specs.declared.Letter.{Letter}
@@ -69,7 +69,7 @@ origin-by : (p t : Float) (b : Bool) → atCritical p t ≡ value b → originAt
 unfolding originAt
 origin-by p t b f = rw f
 
-letter-by : (p t : Float) (u : Unit) (l : Letter) → pTBox p t ≡ value u → letterAt p t ≡ value l → letterRule p t ≡ value l
+letter-by : (p t : Float) (u : Unit) (l : Letter) → region3Box p t ≡ value u → letterAt p t ≡ value l → letterRule p t ≡ value l
 unfolding letterRule
 letter-by p t u l box h = rw box h
 
@@ -83,7 +83,7 @@ module _ (p t : Float) (s : State) (accepted : foundRule p t ≡ value s) where
   unfolding foundRule originRule
   letter-is f =
       went-on (originRule p t) _ s _ accepted (λ o g e.
-      went-on (pTBox p t) _ o _ g (λ u box e₁.
+      went-on (region3Box p t) _ o _ g (λ u box e₁.
       went-on (letterAt p t) (λ l. value (Subregion l)) o _ (sym (origin-by p t false f) ∙ e₁) (λ l h e₂.
       let i : s .origin ≡ Subregion l = state-is o p t s e ∙ (cc) in
       byte-is ∙ ap byteOf i ∙ sym (ap byteIn (letter-by p t u l box h)))))
@@ -93,7 +93,7 @@ module _ (p t : Float) (s : State) (accepted : foundRule p t ≡ value s) where
   unfolding foundRule originRule
   critical-is f =
       went-on (originRule p t) _ s _ accepted (λ o g e.
-      went-on (pTBox p t) _ o _ g (λ _ _ e₁.
+      went-on (region3Box p t) _ o _ g (λ _ _ e₁.
       let h : value Critical ≡ value o = sym (origin-by p t true f) ∙ e₁ in
       let i : s .origin ≡ Critical = state-is o p t s e ∙ (cc) in
       byte-is ∙ ap byteOf i))

@@ -9,6 +9,7 @@ use Rattle.rules.specs.Root.{rootRule}
 use Rattle.rules.specs.Log.{logarithmRule}
 use Rattle.rules.specs.Exp.{exponentialRule}
 use Rattle.r4.specs.Saturation.{p-saturationRule, T-saturationRule}
+use Rattle.border.specs.Border.{B23-T2pRule, B23-p2TRule}
 use Rattle.boundary.specs.Choice.{letterRule}
 use Rattle.by_number.specs.Together.{cpAndWRule}
 use Rattle.record.specs.Record.{report}
@@ -26,6 +27,10 @@ use Rattle.region3_c.proofs.r3_p_saturation.Kinds as p-saturation-kinds
 use Rattle.region3_c.proofs.r3_p_saturation.Reads as p-saturation
 use Rattle.region3_c.proofs.r3_t_saturation.Kinds as t-saturation-kinds
 use Rattle.region3_c.proofs.r3_t_saturation.Reads as t-saturation
+use Rattle.region3_c.proofs.r3_p_border.Kinds as p-border-kinds
+use Rattle.region3_c.proofs.r3_p_border.Reads as p-border
+use Rattle.region3_c.proofs.r3_t_border.Kinds as t-border-kinds
+use Rattle.region3_c.proofs.r3_t_border.Reads as t-border
 use Rattle.region3_c.proofs.r3_cp_w.Kinds as cp-w-kinds
 use Rattle.region3_c.proofs.r3_cp_w.Reads as cp-w
 use Rattle.region3_c.proofs.r3_letter.Kinds as letter-kinds
@@ -62,6 +67,14 @@ p-saturation-says κs a e x p = p
 pub t-saturation-says : (κs : Lfts 1) (a : Dens κs t-saturation-kinds.ps) (e : AtExit (endedOf 1 t-saturation-kinds.ps t-saturation-kinds.r) κs) (x : resT t-saturation-kinds.r κs .Denot) → t-saturation.Post κs a x e
     → Exported (T-saturationRule (a .0)) x (now (e .1 .0))
 t-saturation-says κs a e x p = p
+
+pub p-border-says : (κs : Lfts 1) (a : Dens κs p-border-kinds.ps) (e : AtExit (endedOf 1 p-border-kinds.ps p-border-kinds.r) κs) (x : resT p-border-kinds.r κs .Denot) → p-border.Post κs a x e
+    → Exported (B23-T2pRule (a .0)) x (now (e .1 .0))
+p-border-says κs a e x p = p
+
+pub t-border-says : (κs : Lfts 1) (a : Dens κs t-border-kinds.ps) (e : AtExit (endedOf 1 t-border-kinds.ps t-border-kinds.r) κs) (x : resT t-border-kinds.r κs .Denot) → t-border.Post κs a x e
+    → Exported (B23-p2TRule (a .0)) x (now (e .1 .0))
+t-border-says κs a e x p = p
 
 pub cp-w-says : (κs : Lfts 3) (a : Dens κs cp-w-kinds.ps) (e : AtExit (endedOf 3 cp-w-kinds.ps cp-w-kinds.r) κs) (x : resT cp-w-kinds.r κs .Denot) → cp-w.Post κs a x e
     → Exported (cpAndWRule (a .0) (a .1 .0) .cp) x (now (e .1 .1 .0)) × Exported (cpAndWRule (a .0) (a .1 .0) .w) (now (e .1 .1 .1 .1 .0)) (now (e .1 .1 .1 .0))

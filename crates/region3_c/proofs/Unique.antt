@@ -21,6 +21,10 @@ use Rattle.region3_c.proofs.r3_p_saturation.Kinds as p-saturation-kinds
 use Rattle.region3_c.proofs.r3_p_saturation.Reads as p-saturation
 use Rattle.region3_c.proofs.r3_t_saturation.Kinds as t-saturation-kinds
 use Rattle.region3_c.proofs.r3_t_saturation.Reads as t-saturation
+use Rattle.region3_c.proofs.r3_p_border.Kinds as p-border-kinds
+use Rattle.region3_c.proofs.r3_p_border.Reads as p-border
+use Rattle.region3_c.proofs.r3_t_border.Kinds as t-border-kinds
+use Rattle.region3_c.proofs.r3_t_border.Reads as t-border
 use Rattle.region3_c.proofs.r3_property.Kinds as property-kinds
 use Rattle.region3_c.proofs.r3_property.Reads as property
 use Rattle.region3_c.proofs.r3_cp_w.Kinds as cp-w-kinds
@@ -66,6 +70,12 @@ p-saturation-one κs a d e x y p q = both p q
 
 pub t-saturation-one : OneBehind 1 t-saturation-kinds.ps t-saturation-kinds.r t-saturation.Post Float (λ κs d. now (d .1 .0))
 t-saturation-one κs a d e x y p q = both p q
+
+pub p-border-one : OneBehind 1 p-border-kinds.ps p-border-kinds.r p-border.Post Float (λ κs d. now (d .1 .0))
+p-border-one κs a d e x y p q = both p q
+
+pub t-border-one : OneBehind 1 t-border-kinds.ps t-border-kinds.r t-border.Post Float (λ κs d. now (d .1 .0))
+t-border-one κs a d e x y p q = both p q
 
 pub property-one : OneBehind 1 property-kinds.ps property-kinds.r property.Post Float (λ κs d. now (d .1 .1 .1 .0))
 property-one κs a d e x y p q = both p q

@@ -1,9 +1,11 @@
 // The library for callers in C and Rust. A call returns the refusal's number, 0 where it is accepted, and writes what it answers through a
 // pointer (specs/Exported.antt). The caller's ten numbers go in as his record and come back replaced or zeroed. The units and the numbers of the
-// refusals are in bindings/c/region3.h. In this order: the four rules, the saturation line, a property, cp and w together, the letter, the five
-// records, the columns.
+// refusals are in bindings/c/region3.h. In this order: the four rules, the saturation line, the border with region 2, a property, cp and w
+// together, the letter, the five records, the columns.
 mod exported;
 
+use border::B23_T2p;
+use border::B23_p2T;
 use boundary::sub_region3_pT;
 use by_number::Td_thermal_reg3;
 use by_number::Td2cp_w_reg3;
@@ -34,6 +36,7 @@ ghost use Rattle.rules.specs.Root.{rootRule};
 ghost use Rattle.rules.specs.Log.{logarithmRule};
 ghost use Rattle.rules.specs.Exp.{exponentialRule};
 ghost use Rattle.r4.specs.Saturation.{p-saturationRule, T-saturationRule};
+ghost use Rattle.border.specs.Border.{B23-T2pRule, B23-p2TRule};
 ghost use Rattle.boundary.specs.Choice.{letterRule};
 ghost use Rattle.by_number.specs.Property.{propertyRule};
 ghost use Rattle.by_number.specs.Together.{cpAndWRule};
@@ -83,6 +86,20 @@ pub extern "C" fn r3_t_saturation(p: f64, out: &mut f64) -> u8
     ensures { λ r. ⌜ Exported (T-saturationRule p) r (now (out .exit)) ⌝ }
 {
     exported(T_saturation(MPa(p)), out)
+}
+
+#[no_mangle]
+pub extern "C" fn r3_p_border(t: f64, out: &mut f64) -> u8
+    ensures { λ r. ⌜ Exported (B23-T2pRule t) r (now (out .exit)) ⌝ }
+{
+    exported(B23_T2p(Kelvin(t)), out)
+}
+
+#[no_mangle]
+pub extern "C" fn r3_t_border(p: f64, out: &mut f64) -> u8
+    ensures { λ r. ⌜ Exported (B23-p2TRule p) r (now (out .exit)) ⌝ }
+{
+    exported(B23_p2T(MPa(p)), out)
 }
 
 #[no_mangle]

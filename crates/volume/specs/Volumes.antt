@@ -7,6 +7,7 @@ use Rattle.common.specs.Answer.{numberOf}
 use Rattle.common.specs.Decimal.{decimal, whole}
 use Rattle.common.specs.Constant.{P-TOL, T-TOL, TC-WATER, PC-WATER, DC-WATER}
 use Rattle.common.specs.Range.{pTBox, saturatedBox}
+use Rattle.border.specs.Border.{region3Box}
 use Rattle.record.specs.State.{densityOf, volumeOf}
 use Rattle.subregion.specs.declared.Letter.{Letter}
 use Rattle.subregion.specs.declared.Letter.the-variants.{C, R, S, T, U, X, Y, Z}
@@ -72,10 +73,10 @@ stateAt p t = then (originAt p t) (λ o. stateBy o p t)
 
 -- ---- the calls: the box, once
 
--- what the (p,T) record and a row of the column run go by
+-- what the (p,T) record and a row of the column run go by: with the border, which a volume alone does not ask
 unfoldable pub originRule : Float → Float → Outcome Origin
-unfolding originAt
-originRule p t = then (pTBox p t) (λ _. originAt p t)
+unfolding originAt region3Box
+originRule p t = then (region3Box p t) (λ _. originAt p t)
 
 unfoldable pub foundRule : Float → Float → Outcome State
 unfolding originRule stateBy

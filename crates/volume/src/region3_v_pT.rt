@@ -3,6 +3,7 @@ use crate::OriginAnswer;
 use crate::Phase;
 use crate::StateAnswer;
 use crate::region3_v_subregion_pT::raw_volume;
+use border::check_region3;
 use boundary::letter_at;
 use common::Answer;
 use common::DC_WATER;
@@ -83,11 +84,11 @@ pub fn origin_at(p: MPa, t: Kelvin) -> OriginAnswer
     OriginAnswer::Refused(Refusal::Step)
 }
 
-// Where a (p,T) record and a row of the column run take their volume from: the box, once, then the origin.
+// Where a (p,T) record and a row of the column run take their volume from: the box and the border with region 2, once, then the origin.
 pub fn origin_pT(p: MPa, t: Kelvin) -> OriginAnswer
     ensures { λ r. ⌜ paperOrigin r ≡ originRule (p .0) (t .0) ⌝ }
 {
-    match check_pT(p, t) {
+    match check_region3(p, t) {
         Verdict::Accepted => origin_at(p, t),
         Verdict::Refused(k) => OriginAnswer::Refused(k),
     }

@@ -34,7 +34,7 @@ impl Form {
 
     pub fn rewrite(self, file: &str, rust: &str) -> String {
         let mut tokens = cut(rust);
-        if file == "region3" {
+        if file == "region3" || file == "boundaries" {
             tokens = items::taken(&tokens);
         }
         tokens = moved(&opened(&tokens), self.name());

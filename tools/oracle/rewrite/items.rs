@@ -1,23 +1,31 @@
 //! Splits a file's tokens into its items (uses, constants, functions) and keeps the wanted ones.
-//! Of region3.rs only functions stay that do not call what docs/SCOPE.md leaves behind.
+//! Of region3.rs and boundaries.rs only functions stay that do not call what docs/SCOPE.md leaves behind.
 
 use crate::tokens::{after, Kind, Token};
 
-/// What the port takes of region3.rs. `Td_reg3` differs from `Td_thermal_reg3` by the transport
+/// What the port takes of region3.rs and boundaries.rs. `Td_reg3` differs from `Td_thermal_reg3` by the transport
 /// properties alone, which are left behind: it is renamed where the other four call it.
-pub const TAKEN: [&str; 5] = [
+pub const TAKEN: [&str; 7] = [
     "Td_thermal_reg3",
     "pT_reg3",
     "ph_reg3",
     "ps_reg3",
     "hs_reg3",
+    "B23_T2p",
+    "B23_p2T",
 ];
 
-/// The tokens without the functions that `TAKEN` does not name.
+/// The regions that are left behind.
+const LEFT: [&str; 3] = ["r1", "r2", "r5"];
+
+/// The tokens without the functions that `TAKEN` does not name, and without what the file uses of `LEFT`.
 pub fn taken(tokens: &[Token]) -> Vec<Token> {
     split(tokens)
         .into_iter()
-        .filter(|item| function(item).is_none_or(|name| TAKEN.contains(&name)))
+        .filter(|item| match function(item) {
+            Some(name) => TAKEN.contains(&name),
+            None => !item.iter().any(|t| LEFT.contains(&t.text.as_str())),
+        })
         .flatten()
         .cloned()
         .map(|t| {

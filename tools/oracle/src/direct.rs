@@ -5,6 +5,7 @@ macro_rules! direct {
     ($form:ident: $powi:ident $sqrt:ident $ln:ident $exp:ident) => {
         pub mod $form {
             use crate::forms::$form::common::property_id::*;
+            use crate::forms::$form::common::{B23_T2p, B23_p2T};
             use crate::forms::$form::{r3, r4};
             use crate::ranges::NO_ENTRY;
             #[allow(unused_imports)]
@@ -42,6 +43,8 @@ macro_rules! direct {
                     14 => r3::ps2T_reg3(x, y),
                     15 => r3::ps2v_reg3(x, y),
                     16 => r3::hs2p_reg3(x, y),
+                    18 => B23_p2T(x),
+                    19 => B23_T2p(x),
                     20 => return record(x, y, |number| r3::Td_thermal_reg3(x, y, number)),
                     21 => {
                         let d = r3::pT_reg3(x, y, OD);

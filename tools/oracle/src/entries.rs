@@ -2,7 +2,7 @@
 //! Leaf functions are the Rust's own. What is put together from them follows docs/SCOPE.md.
 
 use crate::forms::checked::common::{DC_WATER, PC_WATER, P_TOL, TC_WATER, T_TOL};
-use crate::forms::checked::{r3, r4};
+use crate::forms::checked::{common, r3, r4};
 use crate::num::{watch, Num};
 use crate::ranges::*;
 use crate::row::{is_property, Answer, Row, BOUNDARIES};
@@ -44,6 +44,8 @@ pub fn answer(row: &Row) -> Answer {
         14 => number(ps2T_reg3(x, y)),
         15 => number(ps2v_reg3(x, y)),
         16 => number(hs2p_reg3(x, y)),
+        18 => number(B23_p2T(x)),
+        19 => number(B23_T2p(x)),
         20 => record(Td_record(x, y)),
         21 => record(pT_record(x, y)),
         22 => record(ph_record(x, y)),
@@ -79,6 +81,15 @@ fn two(x: f64, x_range: Range, y: f64, y_range: Range) -> Outcome<(Num, Num)> {
     Ok((x, Num(y)))
 }
 
+/// The box of (p,T), then 8 where T is above the border with region 2 as `B23_p2T` works it out.
+fn in_region3(p: f64, T: f64) -> Outcome<(Num, Num)> {
+    let (p, T) = two(p, P_BOX, T, T_BOX)?;
+    if T > steps(|| common::B23_p2T(p))? {
+        return Err(BORDER);
+    }
+    Ok((p, T))
+}
+
 fn steps(work: impl FnOnce() -> Num) -> Outcome<Num> {
     watch(work)
 }
@@ -99,7 +110,17 @@ fn volume(find: impl FnOnce() -> Num) -> Outcome<f64> {
     Ok(v.0)
 }
 
-// The saturation line, the boundaries and the letter.
+// The border with region 2, the saturation line, the boundaries and the letter.
+
+pub fn B23_p2T(p: f64) -> Outcome<f64> {
+    let p = one(p, P_BOX)?;
+    raw(steps(|| common::B23_p2T(p)))
+}
+
+pub fn B23_T2p(T: f64) -> Outcome<f64> {
+    let T = one(T, T_BOX)?;
+    raw(steps(|| common::B23_T2p(T)))
+}
 
 pub fn p_saturation(T: f64) -> Outcome<f64> {
     let T = one(T, T_LINE)?;
@@ -117,7 +138,7 @@ pub fn T_atRegionBoundary(p: f64, name: &str) -> Outcome<f64> {
 }
 
 pub fn sub_region3_pT(p: f64, T: f64) -> Outcome<char> {
-    let (p, T) = two(p, P_BOX, T, T_BOX)?;
+    let (p, T) = in_region3(p, T)?;
     watch(|| r3::sub_region3_pT(p, T))
 }
 
@@ -191,7 +212,7 @@ pub fn Td_record(T: f64, d: f64) -> Outcome<[f64; 10]> {
 }
 
 pub fn pT_record(p: f64, T: f64) -> Outcome<[f64; 10]> {
-    let (p, T) = two(p, P_BOX, T, T_BOX)?;
+    let (p, T) = in_region3(p, T)?;
     let v = steps(|| r3::pT2v_reg3(p, T))?;
     record(T, density(v)?, v, None)
 }
@@ -243,10 +264,24 @@ pub fn cp_and_w(T: f64, d: f64) -> Answer {
     answer
 }
 
+fn critical(p: Num, T: Num) -> bool {
+    (T - TC_WATER).abs() < T_TOL && (p - PC_WATER).abs() < P_TOL
+}
+
+/// The letter by whose equation `pT2v_reg3` works, beyond the border too, and 0 where it has none.
+pub fn volume_letter(p: f64, T: f64) -> u8 {
+    match two(p, P_BOX, T, T_BOX) {
+        Ok((p, T)) if !critical(p, T) => {
+            watch(|| r3::sub_region3_pT(p, T)).map_or(0, |letter| letter as u8)
+        }
+        _ => 0,
+    }
+}
+
 /// One row of the column run: the (p,T) steps as far as d. The letter is 0 at the critical point.
 pub fn column_row(p: f64, T: f64) -> Outcome<(u8, f64)> {
-    let (p, T) = two(p, P_BOX, T, T_BOX)?;
-    let (letter, v) = if (T - TC_WATER).abs() < T_TOL && (p - PC_WATER).abs() < P_TOL {
+    let (p, T) = in_region3(p, T)?;
+    let (letter, v) = if critical(p, T) {
         (0, steps(|| Num(1.0) / DC_WATER)?)
     } else {
         let letter = watch(|| r3::sub_region3_pT(p, T))?;

@@ -50,11 +50,8 @@ impl Measures {
     /// At the critical point no letter is chosen, so none can flip.
     fn flipped(&mut self, row: &Row, ruled: &Answer) -> bool {
         let letter = match row.entry {
-            8 => ruled.letter,
-            10 | 21 | 30 => match crate::entries::column_row(row.first, row.second) {
-                Ok((letter, _)) => letter,
-                Err(_) => 0,
-            },
+            8 | 30 => ruled.letter,
+            10 | 21 => crate::entries::volume_letter(row.first, row.second),
             _ => 0,
         };
         let flipped = letter != 0 && letter != plain::letter(row.first, row.second);

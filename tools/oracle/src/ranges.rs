@@ -23,6 +23,7 @@ pub const SECOND: u8 = 3;
 pub const STATE: u8 = 4;
 pub const STEP: u8 = 5;
 pub const PROPERTY: u8 = 6;
+pub const BORDER: u8 = 8;
 
 /// No refusal of docs/SCOPE.md: the row names no entry, boundary, letter or phase.
 pub const NO_ENTRY: u8 = 255;

@@ -10,7 +10,7 @@ pub const ANSWER: usize = 88;
 pub const FIELDS: [&str; 10] = ["T", "d", "v", "p", "h", "s", "u", "cv", "cp", "w"];
 
 /// The entries, by number and by the name that reports give them.
-pub const ENTRIES: [(u8, &str); 24] = [
+pub const ENTRIES: [(u8, &str); 26] = [
     (1, "power"),
     (2, "root"),
     (3, "logarithm"),
@@ -27,6 +27,8 @@ pub const ENTRIES: [(u8, &str); 24] = [
     (14, "ps2T_reg3"),
     (15, "ps2v_reg3"),
     (16, "hs2p_reg3"),
+    (18, "B23_p2T"),
+    (19, "B23_T2p"),
     (20, "(T,d) record"),
     (21, "(p,T) record"),
     (22, "(p,h) record"),

@@ -1,7 +1,7 @@
 //! The published IAPWS check values on the untouched crate, to all printed digits.
 //! The list is check-values.tsv in shared/data beside the repository, or where CHECK_VALUES says.
 
-use oracle::forms::plain::{r3, r4};
+use oracle::forms::plain::{common, r3, r4};
 use std::path::PathBuf;
 
 fn list() -> String {
@@ -29,6 +29,8 @@ fn value(function: &str, first: &str, second: &str, letter: &str) -> f64 {
         "p_saturation" => r4::p_saturation(x),
         "T_saturation" => r4::T_saturation(x),
         "p2h_3ab" => r3::p2h_3ab(x),
+        "B23_p2T" => common::B23_p2T(x),
+        "B23_T2p" => common::B23_T2p(x),
         "ph2T_reg3" => r3::ph2T_reg3(x, y()),
         "ph2v_reg3" => r3::ph2v_reg3(x, y()),
         "ps2T_reg3" => r3::ps2T_reg3(x, y()),

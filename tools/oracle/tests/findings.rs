@@ -294,14 +294,15 @@ fn saturation_below_the_box() {
     assert_eq!(format!("{T:.5}"), "623.14919");
 }
 
-/// The box reaches far beyond region 3. There the equations are still worked, and where d and p come
-/// out in range the answer is accepted, whatever it is.
+/// The box reaches far beyond region 3. (p,T) is refused with 8 there, where the volume alone is still
+/// worked, by an equation whose state has another p. (p,h) and (h,s) know no border: where d and p
+/// come out in range the answer is accepted, whatever it is.
 #[test]
-fn accepted_beyond_region_3() {
+fn beyond_region_3() {
     let (p, T) = (18.048094757229695, 703.0542039013516);
-    let record = pT_record(p, T).unwrap();
+    assert_eq!((pT_record(p, T), sub_region3_pT(p, T)), (Err(8), Err(8)));
+    let record = Td_record(T, 1.0 / pT2v_reg3(p, T).unwrap()).unwrap();
     println!("(p,T) ({p:?}, {T:?}): d {} and p {}", record[1], record[3]);
-    assert_eq!(sub_region3_pT(p, T), Ok('t'));
     assert!(near(record[3], 97.70, 1e-4));
     let (p, h) = (17.129939389394558, 2882.1338944524323);
     let record = ph_record(p, h).unwrap();

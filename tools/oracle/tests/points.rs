@@ -21,12 +21,47 @@ fn letters() {
         (50.0, 700.0, 'a'),
         (50.0, 720.0, 'b'),
         (18.0, 625.0, 'c'),
-        (18.0, 640.0, 't'),
+        (18.0, 635.8209528593616, 't'),
     ];
     for (p, T, letter) in points {
         assert_eq!(sub_region3_pT(p, T), Ok(letter), "({p}, {T})");
     }
     assert_eq!(T_atRegionBoundary(22.064, "3ef"), Ok(647.096));
+}
+
+/// The border with region 2: T equal to it is accepted, the next f64 above is 8, after 1, 2 and 3.
+#[test]
+fn the_border() {
+    let at_18 = 635.8209528593616;
+    assert_eq!(B23_p2T(18.0), Ok(at_18));
+    assert_eq!(B23_p2T(100.0), Ok(863.1499999999929));
+    assert_eq!((B23_p2T(101.0), B23_T2p(623.149)), (Err(2), Err(2)));
+    let points = [
+        (18.0, 640.0, Err(8)),
+        (18.0, at_18, Ok('t')),
+        (18.0, 635.8209528593617, Err(8)),
+        (24.0, 670.0, Ok('k')),
+        (100.0, 863.15, Err(8)),
+        (100.0, 863.1499999999929, Ok('b')),
+        (16.529, 623.15, Err(8)),
+        (16.529164252604804, 623.15, Err(8)),
+        (16.529164252604808, 623.15, Ok('t')),
+        (16.529164252604808, 623.1500000000001, Err(8)),
+        (22.064, 647.096, Ok('z')),
+        (24.0, 623.149, Err(3)),
+        (f64::NAN, 900.0, Err(1)),
+        (101.0, 900.0, Err(2)),
+    ];
+    for (p, T, letter) in points {
+        assert_eq!(sub_region3_pT(p, T), letter, "({p}, {T})");
+        let refused = letter.err();
+        assert_eq!(column_row(p, T).err(), refused, "({p}, {T})");
+        // at p = 100 the p of the found state lies above it
+        let of_record = pT_record(p, T).err().filter(|&k| k != 4 || p < 100.0);
+        assert_eq!(of_record, refused, "({p}, {T})");
+    }
+    assert_eq!(pT2v_reg3(18.0, 640.0), Ok(0.00908693247290276));
+    assert_eq!(pT_record(100.0, 679.5125318168051), Err(4));
 }
 
 #[test]

@@ -4,7 +4,7 @@
 use super::points::{beside, Quantity, P_BANDS, P_SPLITS, SPECIAL, ZERO_BASES};
 use super::random::Random;
 use super::search::crossing;
-use super::states::{self, band_end, on_line, shape};
+use super::states::{self, band_end, on_line, shape, LINES};
 use super::{nameless, rules};
 use crate::forms::ruled::{r3, r4};
 use crate::ranges::*;
@@ -112,7 +112,7 @@ fn pT_lines(random: &mut Random) -> Vec<Pair> {
     pressures.extend((-2..=2).map(|n| beside(band_end(), n)));
     pressures.extend((0..8).map(|_| states::pressure(random)));
     for p in pressures {
-        for line in 0..13 {
+        for line in 0..LINES {
             let T = on_line(line, p);
             pairs.extend((-1..=1).map(|n| (p, beside(T, n))));
         }
@@ -137,7 +137,7 @@ fn between_lines() -> Vec<Pair> {
     let near = |p: f64| [p, beside(p, -1), beside(p, 1), p - 4e-9, p + 4e-9, p + 9e-9];
     let mut pairs = Vec::new();
     for p in ends.into_iter().flat_map(near) {
-        let mut lines: Vec<f64> = (0..13).map(|line| on_line(line, p)).collect();
+        let mut lines: Vec<f64> = (0..LINES).map(|line| on_line(line, p)).collect();
         lines.retain(|&T| T_BOX.0 < T && T < T_BOX.1);
         lines.extend([T_BOX.0, T_BOX.1]);
         lines.sort_by(f64::total_cmp);
@@ -206,7 +206,7 @@ fn ends_of(first: Range, second: Range, ends: &[f64], f: impl Fn(f64, f64) -> f6
     pairs
 }
 
-const NAMED: [Pair; 26] = [
+const NAMED: [Pair; 34] = [
     (24.0, 640.0),
     (24.0, 650.0),
     (24.0, 653.5),
@@ -236,6 +236,14 @@ const NAMED: [Pair; 26] = [
     (21.93161, 646.7),
     (21.90093, 646.6),
     (19.008805, 633.0),
+    (18.0, 635.8209528593616),
+    (18.0, 635.8209528593617),
+    (100.0, 863.15),
+    (100.0, 863.1499999999929),
+    (16.529, 623.15),
+    (16.529164252604804, 623.15),
+    (16.529164252604808, 623.15),
+    (16.529164252604808, 623.1500000000001),
 ];
 
 /// Each letter's equation at base 0 of either argument, and a unit beside it.

@@ -101,7 +101,7 @@ fn reads_whole(entry: u8) -> bool {
 }
 
 fn reads_second(entry: u8) -> bool {
-    !matches!(entry, 1..=7)
+    !matches!(entry, 1..=7 | 18 | 19)
 }
 
 /// A row whose entry does not exist, or whose whole number names nothing.
@@ -130,7 +130,7 @@ fn nameless(random: &mut Random) -> Row {
     ];
     let mut whole = random.of(&wholes);
     if known(whole) {
-        row.entry = random.of(&[0, 17, 18, 19, 26, 27, 28, 29, 31, 32, 127, 128, 254, 255]);
+        row.entry = random.of(&[0, 17, 26, 27, 28, 29, 31, 32, 127, 128, 254, 255]);
         whole = random.below(3) as i32;
     }
     row.whole = whole;

@@ -4,7 +4,7 @@
 use super::points::{Quantity, P_BANDS, P_SPLITS, SPECIAL, STRIPS, S_MARKS, ZERO_BASES};
 use super::random::Random;
 use super::search::crossing;
-use crate::forms::ruled::{r3, r4};
+use crate::forms::ruled::{common, r3, r4};
 use crate::ranges::*;
 use crate::row::{Row, BOUNDARIES, PROPERTIES};
 
@@ -20,6 +20,8 @@ pub fn shape(entry: u8) -> (Quantity, Option<Quantity>) {
         12 | 13 | 22 => (P, Some(H)),
         14 | 15 | 23 => (P, Some(S)),
         16 | 24 => (H, Some(S)),
+        18 => (P, None),
+        19 => (T, None),
         20 | 25 | 34 => (T, Some(D)),
         _ => unreachable!("entry {entry} takes no state"),
     }
@@ -95,10 +97,14 @@ pub fn band_end() -> f64 {
     r4::p_saturation(643.15)
 }
 
-/// The temperature on line 0 to 11, a boundary, or 12, saturation, which has none above 22.064.
+/// The lines of the (p,T) plane: the boundaries, the saturation line, the border with region 2.
+pub const LINES: usize = BOUNDARIES.len() + 2;
+
+/// The temperature on a line by its number; saturation has none above 22.064.
 pub fn on_line(line: usize, p: f64) -> f64 {
     match BOUNDARIES.get(line) {
         Some(name) => r3::T_atRegionBoundary(p, name),
+        None if line > BOUNDARIES.len() => common::B23_p2T(p),
         None => r4::T_saturation(p.min(P_LINE.1)),
     }
 }
@@ -107,7 +113,7 @@ fn pT(random: &mut Random) -> Option<(f64, f64)> {
     let p = pressure(random);
     match random.below(8) {
         0..=2 => {
-            let T = on_line(random.below(13) as usize, p);
+            let T = on_line(random.below(LINES as u64) as usize, p);
             Some((p, random.near(T, 6)))
         }
         3 => {

@@ -107,7 +107,15 @@ returns-24 c = rw (c .before .before .enum-told24 .given .1) (c .row-reply .ensu
 
 returns-25 : tie.Need-returns-25
 unfolding replyRule
-returns-25 c = rw (c .before .before .enum-told25 .given .1) (c .cp-w-reply .ensures ∙ ap cpWReply (c .before .Td2cp-w-reg3 .ensures))
+returns-25 c = rw (c .before .before .enum-told25 .given .1) (c .number-reply14 .ensures ∙ ap numberReply (c .before .B23-p2T .ensures))
+
+returns-26 : tie.Need-returns-26
+unfolding replyRule
+returns-26 c = rw (c .before .before .enum-told26 .given .1) (c .number-reply15 .ensures ∙ ap numberReply (c .before .B23-T2p .ensures))
+
+returns-27 : tie.Need-returns-27
+unfolding replyRule
+returns-27 c = rw (c .before .before .enum-told27 .given .1) (c .cp-w-reply .ensures ∙ ap cpWReply (c .before .Td2cp-w-reg3 .ensures))
 
 pub answer-spec : {M : Type 1} → statement M
 answer-spec =
@@ -189,6 +197,12 @@ answer-spec =
     (λ c. search needs)
     (λ c κs. search needs)
     (λ c κs. search needs)
+    (λ c. search needs)
+    (λ c κs. search needs)
+    (λ c κs. search needs)
+    (λ c. search needs)
+    (λ c κs. search needs)
+    (λ c κs. search needs)
     returns
     returns-2
     returns-3
@@ -213,4 +227,6 @@ answer-spec =
     returns-22
     returns-23
     returns-24
-    returns-25)
+    returns-25
+    returns-26
+    returns-27)

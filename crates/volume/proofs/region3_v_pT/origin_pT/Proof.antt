@@ -1,4 +1,4 @@
--- `volume::origin_pT` meets its contract: the box, then the steps. Assumes nothing.
+-- `volume::origin_pT` meets its contract: the box and the border, then the steps. Assumes nothing.
 use mathlib.Core.Path.{sym, _∙_}
 use borrow.Author.Needs.{needs}
 use Rattle.common.proofs.Calls.{going-on, turned-away}
@@ -8,11 +8,11 @@ use Rattle.volume.proofs.region3_v_pT.origin_pT.Tie as tie
 
 returns : tie.Need-returns
 unfolding originRule
-returns c = c .origin-at .ensures ∙ sym (going-on (c .before .before .before .check-pT .ensures) _ (c .before .enum-told .given .1))
+returns c = c .origin-at .ensures ∙ sym (going-on (c .before .before .before .check-region3 .ensures) _ (c .before .enum-told .given .1))
 
 returns-2 : tie.Need-returns-2
 unfolding originRule
-returns-2 c = sym (turned-away (c .before .before .before .check-pT .ensures) _ _ (c .before .k .given .1))
+returns-2 c = sym (turned-away (c .before .before .before .check-region3 .ensures) _ _ (c .before .k .given .1))
 
 pub origin-pT-spec : {M : Type 1} → statement M
 origin-pT-spec =

@@ -1,0 +1,37 @@
+-- `border::beside` meets its contract: by squares, or by the root. Assumes nothing.
+use mathlib.Core.Path.{sym, ap, _∙_}
+use mathlib.Core.Bool.{true, false}
+use lib.Ieee.{Float, binary64, add, lt, ofBits, round}
+use Rattle.common.specs.Decimal.{scaled, decimal, plus}
+use Rattle.border.proofs.Never.{N4}
+use Rattle.border.proofs.Squares as squares
+use borrow.Author.Needs.{needs}
+use Rattle.border.proofs.beside.Statement.{statement}
+use Rattle.border.proofs.beside.Tie as tie
+
+returns : tie.Need-returns
+unfolding plus scaled round ofBits
+returns c =
+    let s = c .before .before in
+    squares.beside (s .args .p) (s .args .t) (s .pre) (c .before .if1 .taken) (c .if2 .taken)
+
+returns-2 : tie.Need-returns-2
+unfolding plus decimal scaled round ofBits
+returns-2 c =
+    let s = c .before .before .before in
+    squares.beyond (s .args .p) (s .args .t) (s .pre) (c .before .if3 .taken) (c .if4 .taken)
+
+returns-3 : tie.Need-returns-3
+unfolding plus scaled round ofBits
+returns-3 c =
+    let s = c .before .before .before .before in
+    squares.by-root (s .args .p) (s .args .t) (s .pre) true (ap (λ (x : Float). lt (add binary64 N4 x) (s .args .t)) (sym (c .before .raw-root .ensures)) ∙ c .if5 .taken)
+
+returns-4 : tie.Need-returns-4
+unfolding plus scaled round ofBits
+returns-4 c =
+    let s = c .before .before .before .before in
+    squares.by-root (s .args .p) (s .args .t) (s .pre) false (ap (λ (x : Float). lt (add binary64 N4 x) (s .args .t)) (sym (c .before .raw-root .ensures)) ∙ c .if5 .left)
+
+pub beside-spec : {M : Type 1} → statement M
+beside-spec = tie.close (tie.spec returns returns-2 (λ c κs. search needs) returns-3 returns-4)

@@ -1,0 +1,18 @@
+-- `border::raw_B23_p2T` meets its contract: where the steps come to a finite number that is the formula's, and else it is refused. Assumes nothing.
+use mathlib.Core.Path.{sym, ap, _∙_}
+use lib.Ieee.{ofBits, div}
+use Rattle.common.specs.Outcome.{orNan}
+use Rattle.common.proofs.Laws.{check-kept, check-lost}
+use borrow.Author.Needs.{needs}
+use Rattle.border.proofs.raw_B23_p2T.Statement.{statement}
+use Rattle.border.proofs.raw_B23_p2T.Tie as tie
+
+returns : tie.Need-returns
+returns c = let s = c .before .before .p2t-steps in sym (ap orNan (s .ensures .is ∙ check-kept (s .result) (cc)))
+
+returns-2 : tie.Need-returns-2
+unfolding div ofBits
+returns-2 c = let s = c .before .before .p2t-steps in sym (ap orNan (s .ensures .is ∙ check-lost (s .result) (cc)))
+
+pub raw-B23-p2T-spec : {M : Type 1} → statement M
+raw-B23-p2T-spec = tie.close (tie.spec (λ c κs. search needs) (λ c κs. search needs) returns returns-2)
