@@ -17,6 +17,10 @@ use Rattle.entries.proofs.shape.number_at.Kinds as number-at-kinds
 use Rattle.entries.proofs.shape.number_at.Reads as number-at
 use Rattle.entries.proofs.stored.agrees.Kinds as agrees-kinds
 use Rattle.entries.proofs.stored.agrees.Reads as agrees
+use Rattle.entries.proofs.shape.record_reply.Kinds as record-reply-kinds
+use Rattle.entries.proofs.shape.record_reply.Reads as record-reply
+use Rattle.entries.proofs.page.place_reply.Kinds as place-reply-kinds
+use Rattle.entries.proofs.page.place_reply.Reads as place-reply
 use Rattle.entries.proofs.page.answer_rows.Kinds as answer-rows-kinds
 use Rattle.entries.proofs.page.answer_rows.Reads as answer-rows
 
@@ -37,3 +41,10 @@ pub answer-rows-one : (κs : Lfts 2) (a : Dens κs answer-rows-kinds.ps) (d e : 
 answer-rows-one κs a d e x y p q =
     let n : x ≡ y = p .0 ∙ sym (q .0) in
     (n, p .1 ∙ ap (λ (k : ℕ). sets (now (a .1 .0)) 0 (repliesTo (now (a .0)) k)) n ∙ sym (q .1))
+
+pub record-reply-one : One 0 record-reply-kinds.ps record-reply-kinds.r record-reply.Post
+record-reply-one κs a e x y p q = p ∙ sym q
+
+pub place-reply-one : (κs : Lfts 1) (a : Dens κs place-reply-kinds.ps) (d e : AtExit (endedOf 1 place-reply-kinds.ps place-reply-kinds.r) κs) (x y : resT place-reply-kinds.r κs .Denot) →
+    place-reply.Post κs a x d → place-reply.Post κs a y e → now (d .0) ≡ now (e .0)
+place-reply-one κs a d e x y p q = p ∙ sym q

@@ -9,7 +9,9 @@ mod stored;
 pub use call::answer;
 pub use numbers::entry_of;
 pub use page::answer_rows;
+pub use page::place_reply;
 pub use shape::number_at;
+pub use shape::record_reply;
 pub use stored::agrees;
 
 // The entry points, in the order of their numbers. Unnamed stands for a number that names none.

@@ -13,6 +13,7 @@ ghost use mathlib.Core.Path.{_≡_};
 ghost use Prim.Native.Nat.{_+_, _≤_, _<_, _^_, min};
 ghost use lib.ListN.{length};
 ghost use lib.Seq.{sets};
+ghost use Rattle.buffer.specs.Bytes.{placed};
 ghost use Rattle.entries.specs.Rows.{replyAt, replyBytes, rowsIn, repliesTo};
 
 pub fn reply_at(s: &[u8], at: usize) -> Reply
@@ -37,6 +38,19 @@ pub fn put_reply(out: &mut [u8], at: usize, r: Reply)
     while k < 10 {
         put_float(out, at + 8 + 8 * k, numbers[k]);
         k += 1;
+    }
+}
+
+// The 88 bytes of a reply where they fit, every other byte as found.
+pub fn place_reply(out: &mut [u8], at: usize, r: Reply)
+    ensures { λ _. ⌜ now (out .exit) ≡ placed (now (out .entry)) at (replyBytes r) ⌝ }
+{
+    let n = out.len();
+    if n < 88 {
+        return;
+    }
+    if at <= n - 88 {
+        put_reply(out, at, r);
     }
 }
 
