@@ -1,5 +1,6 @@
 -- Each contract admits one answer. The theorems are about the contracts' own readings, `Reads.Post`. Assumes nothing.
 use mathlib.Core.Path.{_≡_, refl, sym, ap, _∙_}
+use mathlib.Core.List.{List}
 use Prim.Native.Nat.{ℕ}
 use Rattle.common.specs.Outcome.{Outcome, value, refused}
 use Rattle.common.proofs.Same.{One, same, kindOf, kind-number}
@@ -57,7 +58,9 @@ verdict-number-one κs a e x y p q = p ∙ sym q
 pub verdict-pair-one : One 0 verdict-pair-kinds.ps verdict-pair-kinds.r verdict-pair.Post
 verdict-pair-one κs a e x y p q = p ∙ sym q
 
+-- some bytes have one answer
+pub one-exchange : (s : List ℕ) (a b : Outcome Pair × (Outcome Unit × Record)) → Exchanged s a → Exchanged s b → a ≡ b
+one-exchange s a b p q = p .answer ∙ ap exchangeOf (one-outcome s (p .read) (q .read) (p .means) (q .means)) ∙ sym (q .answer)
+
 pub answer-one : One 1 answer-kinds.ps answer-kinds.r answer.Post
-answer-one κs a e x y p q =
-    same-exchange (exchangeOf (p .read)) x y (p .answer)
-    (q .answer ∙ ap exchangeOf (one-outcome _ (q .read) (p .read) (q .means) (p .means)))
+answer-one κs a e x y p q = same-exchange (paperExchange x) x y refl (one-exchange _ (paperExchange y) (paperExchange x) q p)

@@ -1,6 +1,6 @@
 -- A field of a list of bytes by the index that it starts at, and what its course shows of it. Assumes nothing.
 use mathlib.Core.Path.{_≡_, refl, sym, ap, subst, _∙_}
-use mathlib.Core.Bool.{Bool, true, false, cond}
+use mathlib.Core.Bool.{Bool, true, false, cond, _&&_}
 use mathlib.Core.Logic.{_⊎_, inl, inr}
 use mathlib.Core.List.{List, [], _∷_, _++_}
 use Prim.Native.Nat.{ℕ, zero, suc, _+_, _*_, _-_, _≤_, _<_}
@@ -9,7 +9,7 @@ use native.Mathlib.Omega.{arith}
 use lib.Dec.{leb, ltb, eqb}
 use lib.ListN.{length, getD, take, drop, length-drop, take-append-drop, drop-of-length-le}
 use lib.Seq.{drop-cons, length-take-le, drop-drop}
-use borrow.Author.Tests.{eqb-true, ne-eqb, eq-eqb, lt-leb, le-ltb}
+use borrow.Author.Tests.{eqb-true, eq-eqb, lt-leb, le-leb, lt-ltb}
 use Rattle.exchange_record.specs.Grammar.{Field, said, Whole, spelt, word, Cut, tag-alone, half-a-length, short, Course, skipped, taken, stopped, fateOf}
 use Rattle.exchange_record.specs.Walk.{sizeAt, lastOf, added, FieldAt, Passed, Stops}
 use Rattle.exchange_record.specs.declared.Cursor.{Cursor}
@@ -26,36 +26,34 @@ stopped-taken n e = let z : _≡_ {A = ℕ} 0 1 = cc in omega arith
 pub stopped-skipped : (n : ℕ) → stopped n ≡ skipped → ⊥
 stopped-skipped n e = let z : _≡_ {A = ℕ} 0 1 = cc in omega arith
 
-abbrev course : Bool → Bool → Bool → Bool → Bool → Course
-course p q r t u = cond p skipped (cond q (stopped 11) (cond r (stopped 11) (cond t (cond u (stopped 13) taken) (stopped 12))))
+abbrev course : Bool → Bool → Bool → Bool → Course
+course p q t u = cond p skipped (cond q (cond t (cond u (stopped 13) taken) (stopped 12)) (stopped 11))
 
-if-taken : (p q r t u : Bool) → course p q r t u ≡ taken → (p ≡ false) × (t ≡ true)
-if-taken true q r t u e = absurd (skipped-taken e)
-if-taken false true r t u e = absurd (stopped-taken 11 e)
-if-taken false false true t u e = absurd (stopped-taken 11 e)
-if-taken false false false false u e = absurd (stopped-taken 12 e)
-if-taken false false false true u e = (refl, refl)
+if-taken : (p q t u : Bool) → course p q t u ≡ taken → (p ≡ false) × (t ≡ true)
+if-taken true q t u e = absurd (skipped-taken e)
+if-taken false false t u e = absurd (stopped-taken 11 e)
+if-taken false true false u e = absurd (stopped-taken 12 e)
+if-taken false true true u e = (refl, refl)
 
-if-skipped : (p q r t u : Bool) → course p q r t u ≡ skipped → p ≡ true
-if-skipped true q r t u e = refl
-if-skipped false true r t u e = absurd (stopped-skipped 11 e)
-if-skipped false false true t u e = absurd (stopped-skipped 11 e)
-if-skipped false false false false u e = absurd (stopped-skipped 12 e)
-if-skipped false false false true true e = absurd (stopped-skipped 13 e)
-if-skipped false false false true false e = absurd (skipped-taken (sym e))
+if-skipped : (p q t u : Bool) → course p q t u ≡ skipped → p ≡ true
+if-skipped true q t u e = refl
+if-skipped false false t u e = absurd (stopped-skipped 11 e)
+if-skipped false true false u e = absurd (stopped-skipped 12 e)
+if-skipped false true true true e = absurd (stopped-skipped 13 e)
+if-skipped false true true false e = absurd (skipped-taken (sym e))
 
 module _ (last tag n : ℕ) where
   pub taken-size : fateOf last tag n ≡ taken → n ≡ 8
   unfolding fateOf
-  taken-size e = eqb-true n 8 (if-taken (leb 128 tag) (eqb tag 0) (ltb 5 tag) (eqb n 8) (leb tag last) e .1)
+  taken-size e = eqb-true n 8 (if-taken (leb 128 tag) (ltb 0 tag && leb tag 5) (eqb n 8) (leb tag last) e .1)
 
   pub taken-known : fateOf last tag n ≡ taken → leb 128 tag ≡ false
   unfolding fateOf
-  taken-known e = if-taken (leb 128 tag) (eqb tag 0) (ltb 5 tag) (eqb n 8) (leb tag last) e .0
+  taken-known e = if-taken (leb 128 tag) (ltb 0 tag && leb tag 5) (eqb n 8) (leb tag last) e .0
 
   pub skipped-unknown : fateOf last tag n ≡ skipped → leb 128 tag ≡ true
   unfolding fateOf
-  skipped-unknown e = if-skipped (leb 128 tag) (eqb tag 0) (ltb 5 tag) (eqb n 8) (leb tag last) e
+  skipped-unknown e = if-skipped (leb 128 tag) (ltb 0 tag && leb tag 5) (eqb n 8) (leb tag last) e
 
   pub is-skipped : leb 128 tag ≡ true → fateOf last tag n ≡ skipped
   unfolding fateOf
@@ -64,7 +62,7 @@ module _ (last tag n : ℕ) where
   pub is-taken : 1 ≤ tag → tag ≤ 5 → n ≡ 8 → last < tag → fateOf last tag n ≡ taken
   unfolding fateOf
   is-taken a b e h =
-      rw (lt-leb 128 tag (omega arith), ne-eqb tag 0 (λ z. omega arith), le-ltb 5 tag b, eq-eqb n 8 e, lt-leb tag last h)
+      rw (lt-leb 128 tag (omega arith), lt-ltb 0 tag a, le-leb tag 5 b, eq-eqb n 8 e, lt-leb tag last h)
 
 -- ---- the bytes at an index
 

@@ -106,10 +106,9 @@ pub data Course : Type 0 where
 unfoldable pub fateOf : ℕ → ℕ → ℕ → Course
 fateOf last tag size =
     cond (leb 128 tag) skipped
-    (cond (eqb tag 0) (stopped 11)
-    (cond (ltb 5 tag) (stopped 11)
-    (cond (eqb size 8) (cond (leb tag last) (stopped 13) taken)
-    (stopped 12))))
+    (cond (ltb 0 tag && leb tag 5)
+    (cond (eqb size 8) (cond (leb tag last) (stopped 13) taken) (stopped 12))
+    (stopped 11))
 
 -- the known fields so far stand newest first
 abbrev pub lastTag : List Field → ℕ

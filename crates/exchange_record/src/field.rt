@@ -7,6 +7,8 @@ use crate::Step;
 use crate::number::word_at;
 use buffer::wide;
 ghost use mathlib.Core.Path.{_≡_};
+ghost use mathlib.Core.Bool.{_&&_};
+ghost use lib.Dec.{ltb, leb};
 ghost use Prim.Native.Nat.{_+_, _≤_, _<_};
 ghost use lib.ListN.{length};
 ghost use Rattle.exchange_record.specs.Grammar.{fateOf};
@@ -41,16 +43,20 @@ fn cursor(at: usize, seen: Seen) -> Cursor
     Cursor { at, seen }
 }
 
+// The tags of p, T, d, h, s.
+fn known(tag: u8) -> bool
+    ensures { λ r. ⌜ r ≡ (ltb 0 tag && leb tag 5) ⌝ }
+{
+    if 0 < tag { tag <= 5 } else { false }
+}
+
 fn judge(last: u8, tag: u8, size: usize) -> Fate
     ensures { λ r. ⌜ paperFate r ≡ fateOf last tag size ⌝ }
 {
     if 128 <= tag {
         return Fate::Skipped;
     }
-    if tag == 0 {
-        return Fate::Stopped(ReadRefusal::UnknownTag);
-    }
-    if 5 < tag {
+    if !known(tag) {
         return Fate::Stopped(ReadRefusal::UnknownTag);
     }
     if size != 8 {
