@@ -25,17 +25,17 @@ use Rattle.exchange_record.proofs.Walk.{onto, AcceptedAfter, MeansAfter
 
 -- ---- the field at the front of some bytes
 
-data Front : Type 0 where
+pub data Front : Type 0 where
   ended : Front
   broken : Front
   headed : Field → List ℕ → Front
 
-body : ℕ → ℕ → ℕ → List ℕ → Bool → Front
+unfoldable pub body : ℕ → ℕ → ℕ → List ℕ → Bool → Front
 body t h l b true =
     headed (record { tag = t; high = h; low = l; body = front (256 * h + l) b }) (drop (256 * h + l) b)
 body t h l b false = broken
 
-frontOf : List ℕ → Front
+unfoldable pub frontOf : List ℕ → Front
 frontOf [] = ended
 frontOf (t ∷ []) = broken
 frontOf (t ∷ h ∷ []) = broken
@@ -56,17 +56,17 @@ front-cut s (short t h l b k) = rw (lt-leb (256 * h + l) (length b) k)
 
 -- ---- the decision
 
-onCourse : (List Field → List ℕ → Outcome Asked) → List Field → Field → List ℕ → Course → Outcome Asked
+unfoldable pub onCourse : (List Field → List ℕ → Outcome Asked) → List Field → Field → List ℕ → Course → Outcome Asked
 onCourse go before f rest skipped = go before rest
 onCourse go before f rest taken = go (f ∷ before) rest
 onCourse go before f rest (stopped n) = refused n
 
-onFront : (List Field → List ℕ → Outcome Asked) → List Field → Front → Outcome Asked
+unfoldable pub onFront : (List Field → List ℕ → Outcome Asked) → List Field → Front → Outcome Asked
 onFront go before ended = finished (seenOf before)
 onFront go before broken = refused 10
 onFront go before (headed f rest) = onCourse go before f rest (fateOf (lastTag before) (f .tag) (said f))
 
-decided : ℕ → List Field → List ℕ → Outcome Asked
+unfoldable pub decided : ℕ → List Field → List ℕ → Outcome Asked
 decided zero before s = refused 10
 decided (suc k) before s = onFront (decided k) before (frontOf s)
 
@@ -235,3 +235,7 @@ some-after (suc k) before s eight h = first-then before s eight (λ b r a l. som
 
 pub always-one : (s : List ℕ) → (o : Outcome Asked) × Means s o
 always-one s = let r = some-after (length s) [] s tt (omega arith) in (r .0, from-none s (r .0) (r .1))
+
+-- so what it decides is what the bytes come to
+pub decided-means : (s : List ℕ) → Means s (decided (suc (length s)) [] s)
+decided-means s = let r = always-one s in rw (decides s (r .0) (r .1)) (r .1)

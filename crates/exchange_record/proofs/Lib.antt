@@ -4,3 +4,4 @@ pub mod Fields
 pub mod Walk
 pub mod Exchange
 pub mod Unique
+pub mod Points

@@ -53,10 +53,11 @@ fn known(tag: u8) -> bool
 fn judge(last: u8, tag: u8, size: usize) -> Fate
     ensures { λ r. ⌜ paperFate r ≡ fateOf last tag size ⌝ }
 {
+    let ours = known(tag);
     if 128 <= tag {
         return Fate::Skipped;
     }
-    if !known(tag) {
+    if !ours {
         return Fate::Stopped(ReadRefusal::UnknownTag);
     }
     if size != 8 {
