@@ -183,6 +183,42 @@ static void columns(void) {
     say("r3_columns");
 }
 
+// Two fields of a pair, a skipped one between them in every fourth record, one byte changed in every eighth, and one in sixteen cut.
+static void reads(void) {
+    static const struct {
+        r3_byte first, second;
+        double a0, a1, b0, b1;
+    } pairs[] = {{1, 2, 16.529, 100, 623.15, 863.15}, {2, 3, 623.15, 863.15, 100, 800}, {1, 4, 16.529, 100, 1500, 2900}, {1, 5, 16.529, 100, 3.3, 5.3}, {4, 5, 1500, 2900, 3.3, 5.3}};
+    begin(15);
+    for (int i = 0; i < ROWS; i++) {
+        word z = next();
+        int k = (int)(z % 5);
+        r3_byte bytes[32], pair;
+        r3_size n = 0;
+        double out[R3_FIELDS];
+        for (int half = 0; half < 2; half++) {
+            union bits b;
+            b.x = half ? any(pairs[k].b0, pairs[k].b1) : any(pairs[k].a0, pairs[k].a1);
+            bytes[n++] = half ? pairs[k].second : pairs[k].first;
+            bytes[n++] = 0;
+            bytes[n++] = 8;
+            for (int shift = 56; shift >= 0; shift -= 8) bytes[n++] = (r3_byte)(b.w >> shift);
+            if (half == 0 && (z >> 8 & 3) == 0) {
+                bytes[n++] = (r3_byte)(128 + (z >> 16 & 127));
+                bytes[n++] = 0;
+                bytes[n++] = 1;
+                bytes[n++] = 77;
+            }
+        }
+        if ((z >> 24 & 7) == 0) bytes[(z >> 32) % n] = (r3_byte)(z >> 40);
+        if ((z >> 48 & 15) == 0) n = (z >> 52) % n;
+        mix(r3_read(bytes, n, &pair, out));
+        mix(pair);
+        for (int f = 0; f < R3_FIELDS; f++) mix_number(out[f]);
+    }
+    say("r3_read");
+}
+
 static void all(void) {
     records("r3_td", 1, r3_td, 623.15, 863.15, 100, 800);
     records("r3_pt", 2, r3_pt, 16.529, 100, 623.15, 863.15);
@@ -201,6 +237,7 @@ static void all(void) {
     letters();
     columns();
     heat_and_sound();
+    reads();
 }
 
 #ifdef ALONE

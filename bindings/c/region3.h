@@ -52,7 +52,22 @@ enum {
     R3_STEP = 5,       /* a step gives a number that is not finite, or a root of a negative or a logarithm of a number not above 0 is taken */
     R3_PROPERTY = 6,   /* the property's number is unknown */
     R3_COLUMNS = 7,    /* the columns are of unequal length */
-    R3_BORDER = 8      /* T is above the border with region 2 at p: r3_pt, r3_letter, a row of r3_columns */
+    R3_BORDER = 8,     /* T is above the border with region 2 at p: r3_pt, r3_letter, a row of r3_columns */
+    /* of r3_read alone, before the pair's own numbers: at the first field that meets one, and 14 at the end */
+    R3_PAST_END = 10,      /* a field or its header runs past the end */
+    R3_UNKNOWN_TAG = 11,   /* a field's tag is unknown */
+    R3_WRONG_LENGTH = 12,  /* a known field is not of 8 bytes */
+    R3_OUT_OF_ORDER = 13,  /* a known tag is not above the one before */
+    R3_NOT_A_PAIR = 14     /* the known tags are not one of the five pairs */
+};
+
+/* The pairs of an exchange record, as r3_read writes them; 0 is none. */
+enum {
+    R3_PAIR_PT = 1,
+    R3_PAIR_TD = 2,
+    R3_PAIR_PH = 3,
+    R3_PAIR_PS = 4,
+    R3_PAIR_HS = 5
 };
 
 /* The places of a record. */
@@ -127,6 +142,11 @@ r3_byte r3_columns(
     const double *p, r3_size p_rows, const double *t, r3_size t_rows, r3_byte *letter, r3_size letter_rows,
     double *density, r3_size density_rows, r3_byte *refusal, r3_size refusal_rows);
 
+/* An exchange record of `length` bytes: fields of a tag, a length in two bytes, the high byte first, and that many bytes. Tag 1 is p, 2 T, 3 d, 4 h,
+ * 5 s, each 8 bytes, a double, the high byte first; two of them that are a pair, in rising order; tags from 128 up are skipped. Writes the pair that
+ * was read, 0 where the record is refused (10 to 14), and the record of the pair's own call, with its number. */
+r3_byte r3_read(const r3_byte *bytes, r3_size length, r3_byte *pair, double *out);
+
 /* The saturation line: MPa at a T from 623.15 to 647.096, K at a p from 16.529 to 22.064. */
 r3_byte r3_p_saturation(double t, double *out);
 r3_byte r3_t_saturation(double p, double *out);
@@ -157,6 +177,11 @@ static __inline__ const char *r3_refusal_text(int number) {
     case R3_PROPERTY: return "the property's number is unknown";
     case R3_COLUMNS: return "the columns are of unequal length";
     case R3_BORDER: return "T is above the border with region 2";
+    case R3_PAST_END: return "a field or its header runs past the end";
+    case R3_UNKNOWN_TAG: return "a field's tag is unknown";
+    case R3_WRONG_LENGTH: return "a known field is not of 8 bytes";
+    case R3_OUT_OF_ORDER: return "a known tag is not above the one before";
+    case R3_NOT_A_PAIR: return "the known tags are not one of the five pairs";
     }
     return "refused, by a number that this header does not know";
 }

@@ -270,15 +270,52 @@ static void columns(void) {
     expect(r3_columns(p, 0, t, 0, letter, 0, d, 0, refusal, 0) == R3_ACCEPTED && d[0] == -7, "no rows", 0, 0);
 }
 
+// The exchange record: README's example, with fields to skip, cut at every byte, and a refusal of each kind.
+static void exchange(void) {
+    static const r3_byte record[] = {200, 0, 0, 1, 0, 8, 0x40, 0x38, 0, 0, 0, 0, 0, 0, 128, 0, 3, 'a', 'b', 'c', 2, 0, 8, 0x40, 0x84, 0x50, 0, 0, 0, 0, 0};
+    static const r3_byte nan[] = {1, 0, 8, 0x7f, 0xf8, 0, 0, 0, 0, 0, 0, 2, 0, 8, 0x40, 0x84, 0x50, 0, 0, 0, 0, 0};
+    static const struct {
+        r3_byte bytes[24];
+        int length, number;
+    } wrong[] = {
+        {{6}, 1, R3_PAST_END},
+        {{6, 0, 9, 0, 0, 0, 0, 0, 0, 0, 0}, 11, R3_PAST_END},
+        {{127, 0, 0}, 3, R3_UNKNOWN_TAG},
+        {{0, 0, 8, 0, 0, 0, 0, 0, 0, 0, 0}, 11, R3_UNKNOWN_TAG},
+        {{1, 0, 7, 0, 0, 0, 0, 0, 0, 0}, 10, R3_WRONG_LENGTH},
+        {{2, 0, 8, 0, 0, 0, 0, 0, 0, 0, 0, 1, 0, 8, 0, 0, 0, 0, 0, 0, 0, 0}, 22, R3_OUT_OF_ORDER},
+        {{2, 0, 8, 0, 0, 0, 0, 0, 0, 0, 0, 4, 0, 8, 0, 0, 0, 0, 0, 0, 0, 0}, 22, R3_NOT_A_PAIR},
+        {{0}, 0, R3_NOT_A_PAIR},
+    };
+    double r[R3_FIELDS], q[R3_FIELDS];
+    r3_byte pair = 9;
+    expect(r3_pt(24, 650, q) == R3_ACCEPTED && r3_read(record, sizeof record, &pair, r) == R3_ACCEPTED && pair == R3_PAIR_PT, "a record", 24, 650);
+    expect(memcmp(r, q, sizeof r) == 0 && same(r[R3_D], 461.6711044147961), "the record's state is the pair's", 24, 650);
+    for (r3_size n = 0; n < sizeof record; n++) {
+        r[3] = pair = 9;
+        int ends = n == 0 || n == 3 || n == 14 || n == 20; // between two fields
+        expect(r3_read(record, n, &pair, r) == (ends ? R3_NOT_A_PAIR : R3_PAST_END) && pair == 0 && zeros(r, R3_FIELDS), "a record cut", (double)n, 0);
+    }
+    expect(r3_read(nan, sizeof nan, &pair, r) == R3_NOT_FINITE && pair == R3_PAIR_PT && zeros(r, R3_FIELDS), "a NaN is the pair's matter", 0, 650);
+    for (int i = 0; i < 8; i++) {
+        r[0] = pair = 9;
+        expect(r3_read(wrong[i].bytes, (r3_size)wrong[i].length, &pair, r) == wrong[i].number && pair == 0 && zeros(r, R3_FIELDS), "a record refused", i, wrong[i].number);
+    }
+}
+
 // What this header says by itself.
 static void texts(void) {
-    static const int numbers[] = {R3_ACCEPTED, R3_NOT_FINITE, R3_FIRST, R3_SECOND, R3_STATE, R3_STEP, R3_PROPERTY, R3_COLUMNS, R3_BORDER};
+    static const int numbers[] = {R3_ACCEPTED,     R3_NOT_FINITE,   R3_FIRST,    R3_SECOND,      R3_STATE,        R3_STEP,      R3_PROPERTY,
+                                  R3_COLUMNS,      R3_BORDER,       R3_PAST_END, R3_UNKNOWN_TAG, R3_WRONG_LENGTH, R3_OUT_OF_ORDER, R3_NOT_A_PAIR};
+    enum { KNOWN = sizeof numbers / sizeof *numbers };
     expect(memcmp(r3_version(), R3_VERSION, sizeof R3_VERSION) == 0, "the version", 0, 0);
-    for (int i = 0; i < 9; i++) {
-        expect(numbers[i] == i, "the refusals are numbered without a gap", i, numbers[i]);
-        for (int k = 0; k < i; k++) expect(r3_refusal_text(i) != r3_refusal_text(k), "each refusal has its own text", i, k);
+    for (int i = 0; i < KNOWN; i++) {
+        for (int k = 0; k < i; k++) {
+            expect(numbers[i] != numbers[k] && r3_refusal_text(numbers[i]) != r3_refusal_text(numbers[k]), "each refusal has its own text", i, k);
+        }
+        expect(r3_refusal_text(numbers[i]) != r3_refusal_text(-1), "a known number's text", i, numbers[i]);
     }
-    expect(strlen(r3_refusal_text(200)) > 0 && r3_refusal_text(200) == r3_refusal_text(-1), "an unknown number has a text", 200, -1);
+    expect(strlen(r3_refusal_text(255)) > 0 && r3_refusal_text(255) == r3_refusal_text(-1), "an unknown number has a text", 255, -1);
 }
 
 // The rounding modes of fenv.h on this processor: to nearest, downward, upward, toward zero.
@@ -364,6 +401,7 @@ int main(void) {
     rules();
     refusals();
     columns();
+    exchange();
     texts();
     rounding();
     printf("region3.h: %d tried, %d failed\n", tried, failed);

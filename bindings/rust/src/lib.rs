@@ -142,6 +142,48 @@ pub fn hs(h: KJPerKg, s: KJPerKgK) -> Result<Record, Refusal> {
     record(raw::r3_hs, h.0, s.0)
 }
 
+/// The pairs that an exchange record can hold.
+#[derive(Clone, Copy, Debug, PartialEq, Eq, Hash)]
+pub enum Pair {
+    /// Pressure and temperature, [`pt`].
+    PT,
+    /// Temperature and density, [`td`].
+    TD,
+    /// Pressure and enthalpy, [`ph`].
+    PH,
+    /// Pressure and entropy, [`ps`].
+    PS,
+    /// Enthalpy and entropy, [`hs`].
+    HS,
+}
+
+/// The pair of an exchange record and the answer of its own call; or the record's refusal, 10 to 14.
+///
+/// A record is fields of a tag, a length in two bytes, the high byte first, and that many bytes. Tag 1 is p, 2 T, 3 d, 4 h, 5 s, each an `f64`, the high
+/// byte first; two of them that are a pair, in rising order. Tags from 128 up are skipped.
+///
+/// ```
+/// use region3::{pt, read, Kelvin, MPa, Pair};
+/// let record = [&[1, 0, 8][..], &24f64.to_be_bytes(), &[2, 0, 8], &650f64.to_be_bytes()].concat();
+/// assert_eq!(read(&record), Ok((Pair::PT, pt(MPa(24.0), Kelvin(650.0)))));
+/// ```
+pub fn read(record: &[u8]) -> Result<(Pair, Result<Record, Refusal>), Refusal> {
+    let (mut pair, mut out) = (0, [0.0; 10]);
+    // SAFETY: the record's bytes are live and only read; pair and out are ours, and the call keeps no pointer.
+    let refusal = unsafe { raw::r3_read(record.as_ptr(), record.len(), &mut pair, &mut out) };
+    let answer = answer(refusal, Record::of(out));
+    let pair = match pair {
+        1 => Pair::PT,
+        2 => Pair::TD,
+        3 => Pair::PH,
+        4 => Pair::PS,
+        5 => Pair::HS,
+        // no pair was read, so the call is refused
+        _ => return Err(answer.err().unwrap_or(Refusal::Other(refusal))),
+    };
+    Ok((pair, answer))
+}
+
 /// One property at a temperature and a density, in the unit that the [`Property`] names.
 pub fn property(property: Property, t: Kelvin, d: KgPerM3) -> Result<f64, Refusal> {
     property_by_number(property.number(), t, d)

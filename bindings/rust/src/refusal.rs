@@ -22,6 +22,16 @@ pub enum Refusal {
     Columns,
     /// 8: T is above the border with region 2 at p.
     Border,
+    /// 10, of [`read`](crate::read) alone: a field or its header runs past the end.
+    PastEnd,
+    /// 11, of [`read`](crate::read) alone: a field's tag is unknown.
+    UnknownTag,
+    /// 12, of [`read`](crate::read) alone: a known field is not of 8 bytes.
+    WrongLength,
+    /// 13, of [`read`](crate::read) alone: a known tag is not above the one before.
+    OutOfOrder,
+    /// 14, of [`read`](crate::read) alone: the known tags are not one of the five pairs.
+    NotAPair,
     /// A number that this version of the crate does not know: the library is newer than the crate.
     Other(
         /// The number, which is not 0.
@@ -42,6 +52,11 @@ impl Refusal {
             6 => Refusal::Property,
             7 => Refusal::Columns,
             8 => Refusal::Border,
+            10 => Refusal::PastEnd,
+            11 => Refusal::UnknownTag,
+            12 => Refusal::WrongLength,
+            13 => Refusal::OutOfOrder,
+            14 => Refusal::NotAPair,
             other => Refusal::Other(other),
         })
     }
@@ -57,6 +72,11 @@ impl Refusal {
             Refusal::Property => 6,
             Refusal::Columns => 7,
             Refusal::Border => 8,
+            Refusal::PastEnd => 10,
+            Refusal::UnknownTag => 11,
+            Refusal::WrongLength => 12,
+            Refusal::OutOfOrder => 13,
+            Refusal::NotAPair => 14,
             Refusal::Other(number) => number,
         }
     }
@@ -73,6 +93,11 @@ impl fmt::Display for Refusal {
             Refusal::Property => "the property's number is unknown",
             Refusal::Columns => "the columns are of unequal length",
             Refusal::Border => "T is above the border with region 2",
+            Refusal::PastEnd => "a field or its header runs past the end",
+            Refusal::UnknownTag => "a field's tag is unknown",
+            Refusal::WrongLength => "a known field is not of 8 bytes",
+            Refusal::OutOfOrder => "a known tag is not above the one before",
+            Refusal::NotAPair => "the known tags are not one of the five pairs",
             Refusal::Other(number) => return write!(f, "refused with {number}, which this version of the crate does not know"),
         })
     }

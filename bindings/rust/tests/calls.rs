@@ -140,3 +140,35 @@ fn columns_of_unequal_length_are_refused_and_nothing_is_written() {
     assert_eq!((letter, density, refusal), ([9; 2], [KgPerM3(9.0); 2], [9; 2]));
     assert_eq!(columns(&[], &[], &mut [], &mut [], &mut []), Ok(()));
 }
+
+fn field(tag: u8, x: f64) -> Vec<u8> {
+    [&[tag, 0, 8][..], &x.to_be_bytes()].concat()
+}
+
+#[test]
+fn the_exchange_record() {
+    let (p, t, d, h, s) = (field(1, 24.0), field(2, 650.0), field(3, 500.0), field(4, 2000.0), field(5, 4.2));
+    let join = |fields: &[&[u8]]| fields.concat();
+    assert_eq!(read(&join(&[&p, &t])), Ok((Pair::PT, pt(MPa(24.0), Kelvin(650.0)))));
+    assert_eq!(read(&join(&[&t, &d])), Ok((Pair::TD, td(Kelvin(650.0), KgPerM3(500.0)))));
+    assert_eq!(read(&join(&[&p, &h])), Ok((Pair::PH, ph(MPa(24.0), KJPerKg(2000.0)))));
+    assert_eq!(read(&join(&[&p, &s])), Ok((Pair::PS, ps(MPa(24.0), KJPerKgK(4.2)))));
+    assert_eq!(read(&join(&[&h, &s])), Ok((Pair::HS, hs(KJPerKg(2000.0), KJPerKgK(4.2)))));
+    let skipping = join(&[&[200, 0, 0], &p, b"\x80\x00\x03abc", &t, &[255, 1, 44], &[90; 300]]);
+    assert_eq!(read(&skipping).unwrap().1.unwrap().d.0, 461.6711044147961);
+    assert_eq!(read(&join(&[&field(1, f64::NAN), &t])), Ok((Pair::PT, Err(Refusal::NotFinite))));
+    for (record, refusal) in [
+        (vec![], Refusal::NotAPair),
+        (join(&[&p, &t, &d]), Refusal::NotAPair),
+        (join(&[&p, &t, &d, &[6, 0, 0]]), Refusal::UnknownTag),
+        (join(&[&p, &t, &[128]]), Refusal::PastEnd),
+        (join(&[&p, &[1, 0, 3, 0, 0, 0]]), Refusal::WrongLength),
+        (join(&[&t, &p]), Refusal::OutOfOrder),
+    ] {
+        assert_eq!(read(&record), Err(refusal), "{record:?}");
+    }
+    for number in 10..15 {
+        assert_eq!(Refusal::of(number).map(Refusal::number), Some(number));
+        assert!(!matches!(Refusal::of(number), Some(Refusal::Other(_))));
+    }
+}

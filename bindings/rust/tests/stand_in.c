@@ -28,3 +28,9 @@ r3_byte r3_columns(
     double *density, r3_size density_rows, r3_byte *refusal, r3_size refusal_rows) {
     return p && t && letter && density && refusal && p_rows == t_rows && letter_rows == density_rows && refusal_rows == p_rows ? 200 : 201;
 }
+
+r3_byte r3_read(const r3_byte *bytes, r3_size length, r3_byte *pair, double *out) {
+    *pair = bytes && length ? bytes[0] : 0;
+    out[0] = 7;
+    return 200;
+}

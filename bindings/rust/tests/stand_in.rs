@@ -22,5 +22,8 @@ fn an_unknown_number_is_an_error() {
     assert_eq!(root(2.0), Err(unknown));
     assert_eq!(logarithm(2.0), Err(unknown));
     assert_eq!(exponential(2.0), Err(unknown));
+    assert_eq!(read(&[1]), Ok((Pair::PT, Err(unknown))));
+    assert_eq!(read(&[]), Err(unknown));
+    assert_eq!(read(&[9]), Err(unknown));
     assert_eq!(columns(&[p], &[t], &mut [0], &mut [d], &mut [0]), Err(unknown));
 }

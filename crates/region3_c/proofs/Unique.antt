@@ -9,6 +9,9 @@ use contract.Lifetimes.{Lfts}
 use denote.Triple.Clauses.{AtExit}
 use borrow.Fn.Kinds.{PK, RK, Out, Dens, endedOf, resT}
 use Rattle.column_run.specs.Columns.{Lent, lent}
+use Rattle.exchange_entry.proofs.Unique.{one-exchange}
+use Rattle.region3_c.proofs.r3_read.Kinds as read-kinds
+use Rattle.region3_c.proofs.r3_read.Reads as read
 use Rattle.region3_c.proofs.r3_power.Kinds as power-kinds
 use Rattle.region3_c.proofs.r3_power.Reads as power
 use Rattle.region3_c.proofs.r3_root.Kinds as root-kinds
@@ -109,3 +112,12 @@ hs-one κs a d e x y p q = both p q
 -- every byte of the three columns
 pub columns-one : OneBehind 5 columns-kinds.ps columns-kinds.r columns.Post Lent (λ κs d. lent (now (d .1 .1 .0)) (now (d .1 .1 .1 .0)) (now (d .1 .1 .1 .1 .0)))
 columns-one κs a d e x y p q = both p q
+
+-- the pair's byte and every field of the record
+pub read-one : OneBehind 3 read-kinds.ps read-kinds.r read.Post (ℕ × List Float) (λ κs d. (now (d .1 .0), now (d .1 .1 .0)))
+read-one κs a d e x y p q =
+    let t = rw (one-exchange _ (q .answer) (p .answer) (q .exchanged) (p .exchanged)) at (q .told) in
+    (p .told .0 ∙ sym (t .0), pairs (p .told .1 ∙ sym (t .1)) (p .told .2 ∙ sym (t .2)))
+  where
+    pairs : {A B : Type 0} {a b : A} {c d : B} → a ≡ b → c ≡ d → _≡_ {A = A × B} (a, c) (b, d)
+    pairs f g = cc

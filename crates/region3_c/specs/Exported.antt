@@ -11,6 +11,8 @@ use Rattle.subregion.specs.declared.Letter.{Letter}
 use Rattle.subregion.specs.Letter.{byteIn}
 use Rattle.record.specs.declared.Record.{Record}
 use Rattle.column_run.specs.Columns.{Lent, lent}
+use Rattle.exchange_record.specs.declared.Pair.{Pair}
+use Rattle.exchange_entry.specs.Call.{pairIn, Exchanged}
 
 -- a number: +0.0 beside a refusal
 abbrev pub Exported : Outcome Float → ℕ → Float → Type 0
@@ -27,6 +29,15 @@ ExportedRecord s byte fields = (byte ≡ numberIn (s .0)) × (fields ≡ fieldsO
 -- the three columns: as they were found beside a refusal
 abbrev pub ExportedColumns : Outcome Unit × Lent → ℕ → List ℕ → List Float → List ℕ → Type 0
 ExportedColumns s byte letters densities refusals = (byte ≡ numberIn (s .0)) × (lent letters densities refusals ≡ s .1)
+
+-- the answer to an exchange record: the byte of the pair that was read, and the entry's report; a refusal of the reader has neither
+abbrev pub ExportedExchange : Outcome Pair × (Outcome Unit × Record) → ℕ → ℕ → List Float → Type 0
+ExportedExchange a byte pair fields = (byte ≡ numberIn (a .1 .0)) × (pair ≡ pairIn (a .0)) × (fields ≡ fieldsOf (a .1 .1))
+
+pub record ExportedRead (s : List ℕ) (byte pair : ℕ) (fields : List Float) : Type 0 where
+  pub answer : Outcome Pair × (Outcome Unit × Record)
+  pub exchanged : Exchanged s answer
+  pub told : ExportedExchange answer byte pair fields
 
 -- the record that ten numbers are, in the order of `fieldsOf`
 abbrev pub lentRecord : List Float → Record

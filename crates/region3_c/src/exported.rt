@@ -2,6 +2,9 @@
 use common::Answer;
 use common::number;
 use common::verdict_byte;
+use exchange_entry::ExchangeAnswer;
+use exchange_entry::verdict_number;
+use exchange_entry::verdict_pair;
 use record::Record;
 use record::RecordAnswer;
 use record::fields;
@@ -12,7 +15,8 @@ ghost use mathlib.Core.Path.{_≡_};
 ghost use Rattle.common.specs.Answer.{paper};
 ghost use Rattle.subregion.specs.Letter.{paperLetter};
 ghost use Rattle.record.specs.Record.{paperRecord};
-ghost use Rattle.region3_c.specs.Exported.{lentRecord, Exported, ExportedLetter, ExportedRecord};
+ghost use Rattle.exchange_entry.specs.Call.{paperExchange};
+ghost use Rattle.region3_c.specs.Exported.{lentRecord, Exported, ExportedLetter, ExportedRecord, ExportedExchange};
 
 // The caller's ten numbers, in the record's order.
 pub fn lent_record(xs: [f64; 10]) -> Record
@@ -60,4 +64,13 @@ pub fn exported_record(a: RecordAnswer, out: &mut [f64; 10]) -> u8
     *out = fields(a.record);
     let v = a.verdict;
     verdict_byte(v)
+}
+
+pub fn exported_exchange(a: ExchangeAnswer, pair: &mut u8, out: &mut [f64; 10]) -> u8
+    ensures { λ r. ⌜ ExportedExchange (paperExchange a) r (now (pair .exit)) (now (out .exit)) ⌝ }
+{
+    *out = fields(a.record);
+    let verdict = a.verdict;
+    *pair = verdict_pair(verdict);
+    verdict_number(verdict)
 }

@@ -1,7 +1,7 @@
 // The library for callers in C and Rust. A call returns the refusal's number, 0 where it is accepted, and writes what it answers through a
 // pointer (specs/Exported.antt). The caller's ten numbers go in as his record and come back replaced or zeroed. The units and the numbers of the
 // refusals are in bindings/c/region3.h. In this order: the four rules, the saturation line, the border with region 2, a property, cp and w
-// together, the letter, the five records, the columns.
+// together, the letter, the five records, the columns, the exchange record.
 mod exported;
 
 use border::B23_T2p;
@@ -16,7 +16,9 @@ use common::Kelvin;
 use common::KgPerM3;
 use common::MPa;
 use common::verdict_byte;
+use exchange_entry::answer;
 use exported::exported;
+use exported::exported_exchange;
 use exported::exported_letter;
 use exported::exported_record;
 use exported::lent_record;
@@ -44,7 +46,7 @@ ghost use Rattle.record.specs.Record.{report};
 ghost use Rattle.td_record.specs.Steps.{recordRule};
 ghost use Rattle.region3.specs.Entries.{pTRule, phRule, psRule, hsRule};
 ghost use Rattle.column_run.specs.Columns.{lent, columnsRule};
-ghost use Rattle.region3_c.specs.Exported.{Exported, ExportedLetter, ExportedRecord, ExportedColumns};
+ghost use Rattle.region3_c.specs.Exported.{Exported, ExportedLetter, ExportedRecord, ExportedColumns, ExportedRead};
 
 #[no_mangle]
 pub extern "C" fn r3_power(a: f64, n: i32, out: &mut f64) -> u8
@@ -176,4 +178,12 @@ pub extern "C" fn r3_columns(
 {
     let v = columns(p, t, letter, density, refusal);
     verdict_byte(v)
+}
+
+// An exchange record: the byte of the pair that was read, 0 where none was, and the pair's own answer.
+#[no_mangle]
+pub extern "C" fn r3_read(bytes: &[u8], pair: &mut u8, out: &mut [f64; 10]) -> u8
+    ensures { λ r. ⌜ ExportedRead (now (bytes .entry)) r (now (pair .exit)) (now (out .exit)) ⌝ }
+{
+    exported_exchange(answer(lent_record(*out), bytes), pair, out)
 }

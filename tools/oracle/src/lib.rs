@@ -6,6 +6,7 @@ pub mod compare;
 pub mod counts;
 pub mod direct;
 pub mod entries;
+pub mod exchange;
 pub mod forms;
 pub mod lines;
 pub mod make;

@@ -3,7 +3,7 @@
 
 use oracle::make::Rows;
 use oracle::row::{Answer, Row, ROW};
-use oracle::{compare, direct, entries, lines, store};
+use oracle::{compare, direct, entries, exchange, lines, make, store};
 use std::io::{self, BufWriter, Read, Write};
 use std::process::ExitCode;
 
@@ -12,6 +12,9 @@ oracle answers                 rows of 24 bytes in, docs/SCOPE.md's answers of 8
 oracle plain                   the same rows answered by the untouched crate, nothing refused
 oracle ruled                   the same, with docs/SCOPE.md's four rules in place of std's functions
 oracle lines                   rows of 16 bytes in, what the program `letters` must write out
+oracle exchange                records after their lengths in, what the program `exchange` must write out
+oracle records --rows N --seed S
+                               writes N records, each after its length
 oracle rows --rows N --seed S [--entries LIST]
                                writes N rows
 oracle compare --rows N --seed S [--entries LIST] [--ported LIST] -- COMMAND...
@@ -42,6 +45,23 @@ fn run(words: &[String]) -> Result<bool, String> {
             let mut input = Vec::new();
             io::stdin().read_to_end(&mut input).map_err(said)?;
             lines::write(&input, BufWriter::new(io::stdout().lock())).map_err(said)?;
+        }
+        "exchange" => {
+            let mut input = Vec::new();
+            io::stdin().read_to_end(&mut input).map_err(said)?;
+            let mut out = BufWriter::new(io::stdout().lock());
+            for record in exchange::records(&input) {
+                out.write_all(&exchange::reply(record)).map_err(said)?;
+            }
+            out.flush().map_err(said)?;
+        }
+        "records" => {
+            let asked = Asked::read(&words[1..])?;
+            let mut out = BufWriter::new(io::stdout().lock());
+            for record in make::records::stream(asked.count, asked.seed) {
+                out.write_all(&record).map_err(said)?;
+            }
+            out.flush().map_err(said)?;
         }
         "rows" => {
             let asked = Asked::read(&words[1..])?;

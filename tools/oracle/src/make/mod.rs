@@ -4,6 +4,7 @@
 mod edges;
 mod points;
 mod random;
+pub mod records;
 mod rules;
 mod search;
 mod states;

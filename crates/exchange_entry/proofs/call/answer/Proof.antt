@@ -1,0 +1,23 @@
+-- `exchange_entry::call::answer` meets its contract. Assumes nothing.
+use borrow.Author.Needs.{needs}
+use Rattle.common.specs.Outcome.{value, refused}
+use Rattle.exchange_record.specs.Reading.{readNumber}
+use Rattle.exchange_entry.proofs.call.answer.Statement.{statement}
+use Rattle.exchange_entry.proofs.call.answer.Tie as tie
+
+returns : tie.Need-returns
+returns c =
+    record { read = value _; means = rw (c .before .before .q .given .1) at (c .before .before .before .before .read .ensures); answer = c .asked .ensures }
+
+returns-2 : tie.Need-returns-2
+returns-2 c =
+    record {
+      read = refused _;
+      means = rw (c .before .before .k .given .1) at (c .before .before .before .before .read .ensures);
+      answer = rw (c .blank .ensures);
+    }
+
+pub answer-spec : {M : Type 1} → statement M
+answer-spec =
+    tie.close
+    (tie.spec (λ c κs. search needs) (λ c. search needs) (λ c κs. search needs) (λ c. search needs) (λ c κs. search needs) returns returns-2)
