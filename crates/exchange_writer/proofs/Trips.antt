@@ -61,6 +61,7 @@ word-high n h =
         let d = div-add-mod' (n / m) 256 in
         let q = div-div-eq-div-mul n m 256 in
         omega arith
+
     first : n ≡ 256 * (n / 2 ^ 8) + n % 256
     first = let d = div-add-mod' n 256 in omega arith
 
@@ -141,9 +142,10 @@ eight-bytes (a ∷ b ∷ c ∷ d ∷ e ∷ f ∷ g ∷ i ∷ []) l h =
     let h4 = h3 .1 in
     let h5 = h4 .1 in
     let h6 = h5 .1 in
-    let h7 = h6 .1 in
-    (high-word a b c d e f g i ha (h1 .0) (h2 .0) (h3 .0) (h4 .0) (h5 .0) (h6 .0) (h7 .0),
-    word-small a b c d e f g i ha (h1 .0) (h2 .0) (h3 .0) (h4 .0) (h5 .0) (h6 .0) (h7 .0))
+    let h7 = h6 .1 in (
+      high-word a b c d e f g i ha (h1 .0) (h2 .0) (h3 .0) (h4 .0) (h5 .0) (h6 .0) (h7 .0),
+      word-small a b c d e f g i ha (h1 .0) (h2 .0) (h3 .0) (h4 .0) (h5 .0) (h6 .0) (h7 .0),
+    )
 eight-bytes (a ∷ b ∷ c ∷ d ∷ e ∷ f ∷ g ∷ i ∷ j ∷ xs) l h = absurd (long (length xs) l)
   where
     long : (n : ℕ) → suc (suc (suc (suc (suc (suc (suc (suc (suc n)))))))) ≡ 8 → ⊥
@@ -171,16 +173,16 @@ two-read i j a b p ha hb k e =
       bytes = refl;
       whole = (refl, (refl, tt));
       forms =
-        record {
-          first = numberField i a;
-          second = numberField j b;
-          two = k;
-          pair = e;
-          eight-a = refl;
-          eight-b = refl;
-          a = bits-back a ha;
-          b = bits-back b hb;
-        };
+          record {
+            first = numberField i a;
+            second = numberField j b;
+            two = k;
+            pair = e;
+            eight-a = refl;
+            eight-b = refl;
+            a = bits-back a ha;
+            b = bits-back b hb;
+          };
     }
 
 -- a point's record is accepted as its pair and the bits of its two numbers
@@ -205,6 +207,7 @@ front-written x found out e = go (report (entryRule x) .0) e
         let n : length (recordOf x) ≡ 22 = record-length x in
         ap (take 22) (sym (ap (λ (z : Outcome Unit × List ℕ). z .1) h) ∙ sets-eq (recordOf x) found 0 (omega arith))
         ∙ take-at (recordOf x) (drop (0 + length (recordOf x)) found) 22 n
+
     go : (o : Outcome Unit) → after o x found ≡ (value tt, out) → take 22 out ≡ recordOf x
     go (value u) h = room (ltb (length found) 22) refl h
     go (refused k) h = absurd (value-refused (sym (ap (λ (z : Outcome Unit × List ℕ). z .0) h)))
@@ -262,7 +265,7 @@ same-tags [] m x y p a b e = absurd (none e)
 same-tags (tagged i j q ∷ rs) m x y p a b e = go (eqb x i) (eqb y j) refl refl (same-tags rs (m .1) x y p a b) e
   where
     go : (s t : Bool) → eqb x i ≡ s → eqb y j ≡ t → (pairIn rs x y ≡ value p → recordOf (pointAt p a b) ≡ twoFields x a y b)
-      → cond (s && t) (value q) (pairIn rs x y) ≡ value p → recordOf (pointAt p a b) ≡ twoFields x a y b
+        → cond (s && t) (value q) (pairIn rs x y) ≡ value p → recordOf (pointAt p a b) ≡ twoFields x a y b
     go true true f g later h =
         let ex : x ≡ i = eqb-true x i f in
         let ey : y ≡ j = eqb-true y j g in

@@ -20,6 +20,8 @@ use Rattle.exchange_writer.specs.declared.WriteVerdict.{WriteVerdict}
 use Rattle.exchange_writer.specs.declared.WriteVerdict.the-variants as verdict
 use Rattle.exchange_writer.proofs.write.Kinds as write-kinds
 use Rattle.exchange_writer.proofs.write.Reads as write
+use Rattle.exchange_writer.proofs.write_by.Kinds as write-by-kinds
+use Rattle.exchange_writer.proofs.write_by.Reads as write-by
 use Rattle.exchange_writer.proofs.write_number.Kinds as write-number-kinds
 use Rattle.exchange_writer.proofs.write_number.Reads as write-number
 
@@ -53,9 +55,16 @@ verdict-back (verdict.Refused k) = ap verdict.Refused (refusal-back k)
 pub write-one : (κs : Lfts 1) (a : Dens κs write-kinds.ps) (d e : AtExit (endedOf 1 write-kinds.ps write-kinds.r) κs) (x y : resT write-kinds.r κs .Denot) →
     write.Post κs a x d → write.Post κs a y e → (x ≡ y) × (now (d .1 .0) ≡ now (e .1 .0))
 write-one κs a d e x y p q =
-    let same-pair = p ∙ sym q in
-    (same paperWrite verdictOf verdict-back (paperWrite y) x y (ap (λ (z : Outcome Unit × List ℕ). z .0) same-pair) refl,
-    ap (λ (z : Outcome Unit × List ℕ). z .1) same-pair)
+    let same-pair = p ∙ sym q in (
+      same paperWrite verdictOf verdict-back (paperWrite y) x y (ap (λ (z : Outcome Unit × List ℕ). z .0) same-pair) refl,
+      ap (λ (z : Outcome Unit × List ℕ). z .1) same-pair,
+    )
 
 pub write-number-one : One 0 write-number-kinds.ps write-number-kinds.r write-number.Post
 write-number-one κs a e x y p q = p ∙ sym q
+
+pub write-by-one : (κs : Lfts 1) (a : Dens κs write-by-kinds.ps) (d e : AtExit (endedOf 1 write-by-kinds.ps write-by-kinds.r) κs) (x y : resT write-by-kinds.r κs .Denot) →
+    write-by.Post κs a x d → write-by.Post κs a y e → (x ≡ y) × (now (d .1 .1 .1 .0) ≡ now (e .1 .1 .1 .0))
+write-by-one κs a d e x y p q =
+    let both = p ∙ sym q in
+    (ap (λ (z : ℕ × List ℕ). z .0) both, ap (λ (z : ℕ × List ℕ). z .1) both)

@@ -3,19 +3,20 @@
 use mathlib.Core.Bool.{cond}
 use mathlib.Core.List.{List, [], _∷_, _++_}
 use Prim.Native.Nat.{ℕ, _/_, _%_, _^_}
-use lib.Dec.{ltb}
+use lib.Dec.{eqb, ltb}
 use lib.ListN.{length}
 use lib.Seq.{sets}
 use lib.Ieee.{Float, binary64, toBits}
-use Rattle.common.specs.Outcome.{Outcome, value, refused}
+use Rattle.common.specs.Outcome.{Outcome, value, refused, numberIn}
 use Rattle.common.specs.Answer.{numberOf}
 use Rattle.record.specs.Record.{report}
 use Rattle.exchange_record.specs.declared.Asked.{Asked}
+use Rattle.exchange_record.specs.declared.Pair.{Pair}
 use Rattle.exchange_record.specs.declared.Pair.the-variants as pair
 use Rattle.exchange_record.specs.Grammar.{Field, encoded}
 use Rattle.exchange_entry.specs.declared.Point.{Point}
 use Rattle.exchange_entry.specs.declared.Point.the-variants as at
-use Rattle.exchange_entry.specs.Call.{entryRule}
+use Rattle.exchange_entry.specs.Call.{pointAt, entryRule}
 use Rattle.exchange_writer.specs.declared.WriteRefusal.{WriteRefusal}
 use Rattle.exchange_writer.specs.declared.WriteRefusal.the-variants.{Entry, Room}
 use Rattle.exchange_writer.specs.declared.WriteVerdict.{WriteVerdict}
@@ -67,3 +68,22 @@ askedFor (at.TD t d) = record { pair = pair.TD; a = toBits binary64 (t .0); b = 
 askedFor (at.PH p h) = record { pair = pair.PH; a = toBits binary64 (p .0); b = toBits binary64 (h .0) }
 askedFor (at.PS p s) = record { pair = pair.PS; a = toBits binary64 (p .0); b = toBits binary64 (s .0) }
 askedFor (at.HS h s) = record { pair = pair.HS; a = toBits binary64 (h .0); b = toBits binary64 (s .0) }
+
+-- ---- by the byte of a pair, for callers that have no units
+
+-- 255 where no pair has the byte
+abbrev pub pairBy : ℕ → Outcome Pair
+pairBy n =
+    cond (eqb n 1) (value pair.PT)
+    (cond (eqb n 2) (value pair.TD)
+    (cond (eqb n 3) (value pair.PH) (cond (eqb n 4) (value pair.PS) (cond (eqb n 5) (value pair.HS) (refused 255)))))
+
+abbrev pub numbered : Outcome Unit × List ℕ → ℕ × List ℕ
+numbered z = (numberIn (z .0), z .1)
+
+abbrev pub writtenFor : Outcome Pair → Float → Float → List ℕ → ℕ × List ℕ
+writtenFor (value p) a b found = numbered (writeRule (pointAt p a b) found)
+writtenFor (refused k) a b found = (k, found)
+
+abbrev pub writtenBy : ℕ → Float → Float → List ℕ → ℕ × List ℕ
+writtenBy n = writtenFor (pairBy n)

@@ -1,5 +1,10 @@
 // The exchange record written: two fields in rising tags, 22 bytes, of a point that its own entry accepts.
 use buffer::put_float;
+use common::KJPerKg;
+use common::KJPerKgK;
+use common::Kelvin;
+use common::KgPerM3;
+use common::MPa;
 use common::Refusal;
 use common::Verdict;
 use common::number;
@@ -12,7 +17,7 @@ ghost use lib.ListN.{length};
 ghost use lib.Seq.{sets};
 ghost use Rattle.common.specs.Outcome.{numberIn};
 ghost use Rattle.common.specs.Answer.{paperVerdict};
-ghost use Rattle.exchange_writer.specs.Written.{twoFields, recordOf, roomRule, after, writeRule, paperWrite, writeNumber};
+ghost use Rattle.exchange_writer.specs.Written.{twoFields, recordOf, roomRule, after, writeRule, paperWrite, writeNumber, writtenBy};
 
 // Why a point is not written: its entry's own refusal, or fewer than 22 bytes lent.
 pub enum WriteRefusal {
@@ -130,5 +135,22 @@ pub fn write_number(v: WriteVerdict) -> u8
     match v {
         WriteVerdict::Accepted => 0,
         WriteVerdict::Refused(k) => refusal_number(k),
+    }
+}
+
+// The refusal of a pair byte that names none.
+pub const NO_PAIR: u8 = 255;
+
+// A point by the byte of its pair, for callers that have no units: its number, 255 where the byte names no pair.
+pub fn write_by(pair: u8, a: f64, b: f64, out: &mut [u8]) -> u8
+    ensures { λ r. ⌜ (r, now (out .exit)) ≡ writtenBy pair a b (now (out .entry)) ⌝ }
+{
+    match pair {
+        1 => write_number(write(Point::PT(MPa(a), Kelvin(b)), out)),
+        2 => write_number(write(Point::TD(Kelvin(a), KgPerM3(b)), out)),
+        3 => write_number(write(Point::PH(MPa(a), KJPerKg(b)), out)),
+        4 => write_number(write(Point::PS(MPa(a), KJPerKgK(b)), out)),
+        5 => write_number(write(Point::HS(KJPerKg(a), KJPerKgK(b)), out)),
+        _ => NO_PAIR,
     }
 }

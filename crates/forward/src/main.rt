@@ -2,15 +2,8 @@
 // Standard error has what was not answered and why: bytes after the last whole row, a failed read, a failed write.
 use buffer::byte_at;
 use buffer::float_at;
-use common::KJPerKg;
-use common::KJPerKgK;
-use common::Kelvin;
-use common::KgPerM3;
-use common::MPa;
 use common::least;
-use exchange_entry::Point;
-use exchange_writer::write;
-use exchange_writer::write_number;
+use exchange_writer::write_by;
 use libc::STDERR_FILENO;
 use libc::STDOUT_FILENO;
 use stdio::Stop;
@@ -18,22 +11,8 @@ use stdio::Stop;
 // The loop ends by this number of rows, which no run reaches.
 const MOST: u64 = 0xffff_ffff_ffff_ffff;
 
-// The refusal of a pair that does not exist.
-const UNKNOWN: u8 = 255;
-
 // A row's room is at most this.
 const ROOM: usize = 40;
-
-fn put(out: &mut [u8], pair: u8, a: f64, b: f64) -> u8 {
-    match pair {
-        1 => write_number(write(Point::PT(MPa(a), Kelvin(b)), out)),
-        2 => write_number(write(Point::TD(Kelvin(a), KgPerM3(b)), out)),
-        3 => write_number(write(Point::PH(MPa(a), KJPerKg(b)), out)),
-        4 => write_number(write(Point::PS(MPa(a), KJPerKgK(b)), out)),
-        5 => write_number(write(Point::HS(KJPerKg(a), KJPerKgK(b)), out)),
-        _ => UNKNOWN,
-    }
-}
 
 fn fill(out: &mut [u8], byte: u8) {
     let mut k = 0;
@@ -46,7 +25,7 @@ fn fill(out: &mut [u8], byte: u8) {
 // The room of a row, filled and written to. Answers the refusal.
 fn fill_and_put(out: &mut [u8], row: &[u8]) -> u8 {
     fill(out, byte_at(row, 2));
-    put(out, byte_at(row, 0), float_at(row, 8), float_at(row, 16))
+    write_by(byte_at(row, 0), float_at(row, 8), float_at(row, 16), out)
 }
 
 fn reply(row: &[u8]) -> [u8; 48] {
