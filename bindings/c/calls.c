@@ -219,6 +219,27 @@ static void reads(void) {
     say("r3_read");
 }
 
+// Rooms of every size up to 40, and a pair byte that names none in every eighth row.
+static void writes(void) {
+    static const double from[5][2] = {{16.529, 623.15}, {623.15, 100}, {16.529, 1500}, {16.529, 3.3}, {1500, 3.3}};
+    static const double to[5][2] = {{100, 863.15}, {863.15, 800}, {100, 2900}, {100, 5.3}, {2900, 5.3}};
+    begin(16);
+    for (int i = 0; i < ROWS; i++) {
+        word z = next();
+        int k = (int)(z % 5);
+        r3_byte room[40], pair = (z >> 8 & 7) == 0 ? (r3_byte)(z >> 16) : (r3_byte)(k + 1);
+        for (int n = 0; n < 40; n++) room[n] = (r3_byte)(z >> 24);
+        double a = any(from[k][0], to[k][0]), b = any(from[k][1], to[k][1]);
+        mix(r3_write(pair, a, b, room, (z >> 32 & 3) == 0 ? (z >> 40) % 41 : 40));
+        for (int n = 0; n < 40; n += 8) {
+            word w = 0;
+            for (int m = 0; m < 8; m++) w = w << 8 | room[n + m];
+            mix(w);
+        }
+    }
+    say("r3_write");
+}
+
 static void all(void) {
     records("r3_td", 1, r3_td, 623.15, 863.15, 100, 800);
     records("r3_pt", 2, r3_pt, 16.529, 100, 623.15, 863.15);
@@ -238,6 +259,7 @@ static void all(void) {
     columns();
     heat_and_sound();
     reads();
+    writes();
 }
 
 #ifdef ALONE

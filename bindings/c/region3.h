@@ -4,7 +4,7 @@
  * Units: p in MPa, t in K, d in kg/m3, h in kJ/kg, s in kJ/(kg K).
  *
  * A call returns its refusal's number, R3_ACCEPTED where there is none, and always writes through its pointers: +0.0 in a number and in every
- * field of a record, 0 for a letter, where it is refused. (r3_columns with R3_COLUMNS writes nothing.) Every double is a fair argument, NaN and
+ * field of a record, 0 for a letter, where it is refused. (r3_columns with R3_COLUMNS, and a refused r3_write, write nothing.) Every double is a fair argument, NaN and
  * the infinities too. Calls keep no state: any number of threads may call at once. The number returned is a byte: a caller in another language
  * takes the low byte of the result alone, as C does.
  *
@@ -58,7 +58,10 @@ enum {
     R3_UNKNOWN_TAG = 11,   /* a field's tag is unknown */
     R3_WRONG_LENGTH = 12,  /* a known field is not of 8 bytes */
     R3_OUT_OF_ORDER = 13,  /* a known tag is not above the one before */
-    R3_NOT_A_PAIR = 14     /* the known tags are not one of the five pairs */
+    R3_NOT_A_PAIR = 14,    /* the known tags are not one of the five pairs */
+    /* of r3_write alone, after the pair's own numbers */
+    R3_NO_ROOM = 16,       /* fewer than 22 bytes are lent */
+    R3_NO_SUCH_PAIR = 255  /* the pair byte is none of R3_PAIR_.. */
 };
 
 /* The pairs of an exchange record, as r3_read writes them; 0 is none. */
@@ -147,6 +150,11 @@ r3_byte r3_columns(
  * was read, 0 where the record is refused (10 to 14), and the record of the pair's own call, with its number. */
 r3_byte r3_read(const r3_byte *bytes, r3_size length, r3_byte *pair, double *out);
 
+/* Writes the exchange record of a pair and its two numbers, R3_RECORD bytes in two fields, at the front of the `length` bytes behind `out`, if the pair's
+ * own call accepts it: else its number, then R3_NO_ROOM, and nothing is written. Bytes that the record does not need stay as they are. */
+enum { R3_RECORD = 22 };
+r3_byte r3_write(r3_byte pair, double a, double b, r3_byte *out, r3_size length);
+
 /* The saturation line: MPa at a T from 623.15 to 647.096, K at a p from 16.529 to 22.064. */
 r3_byte r3_p_saturation(double t, double *out);
 r3_byte r3_t_saturation(double p, double *out);
@@ -181,6 +189,8 @@ static __inline__ const char *r3_refusal_text(int number) {
     case R3_UNKNOWN_TAG: return "a field's tag is unknown";
     case R3_WRONG_LENGTH: return "a known field is not of 8 bytes";
     case R3_OUT_OF_ORDER: return "a known tag is not above the one before";
+    case R3_NO_ROOM: return "fewer than 22 bytes are lent";
+    case R3_NO_SUCH_PAIR: return "no pair has this byte";
     case R3_NOT_A_PAIR: return "the known tags are not one of the five pairs";
     }
     return "refused, by a number that this header does not know";

@@ -303,10 +303,30 @@ static void exchange(void) {
     }
 }
 
+// The exchange record written: the request's own rows, read back, and every byte of the room.
+static void forward(void) {
+    static const r3_byte wanted[] = {1, 0, 8, 0x40, 0x38, 0, 0, 0, 0, 0, 0, 2, 0, 8, 0x40, 0x84, 0x50, 0, 0, 0, 0, 0};
+    double nan = 0.0 / 0.0, r[R3_FIELDS];
+    r3_byte room[30], pair;
+    memset(room, 0xaa, sizeof room);
+    expect(r3_write(R3_PAIR_PT, 24, 650, room, 21) == R3_NO_ROOM && room[0] == 0xaa, "no room", 24, 650);
+    expect(r3_write(R3_PAIR_PT, nan, 1, room, 0) == R3_NOT_FINITE && room[0] == 0xaa, "the pair's own number comes first", 0, 1);
+    expect(r3_write(R3_PAIR_PT, 24, 600, room, 30) == R3_SECOND && room[0] == 0xaa, "a refused pair is not written", 24, 600);
+    expect(r3_write(0, 24, 650, room, 30) == R3_NO_SUCH_PAIR && r3_write(6, 24, 650, room, 30) == R3_NO_SUCH_PAIR && room[0] == 0xaa, "no such pair", 24, 650);
+    expect(r3_write(R3_PAIR_PT, 24, 650, room, 30) == R3_ACCEPTED && memcmp(room, wanted, R3_RECORD) == 0, "a record", 24, 650);
+    for (int i = R3_RECORD; i < 30; i++) expect(room[i] == 0xaa, "room that is not needed", i, room[i]);
+    static const double points[5][2] = {{24, 650}, {650, 500}, {25, 2095}, {50, 4.5}, {2000, 4.2}};
+    for (r3_byte k = R3_PAIR_PT; k <= R3_PAIR_HS; k++) {
+        double a = points[k - 1][0], b = points[k - 1][1];
+        expect(r3_write(k, a, b, room, R3_RECORD) == R3_ACCEPTED && r3_read(room, R3_RECORD, &pair, r) == R3_ACCEPTED && pair == k, "written, then read", a, b);
+    }
+}
+
 // What this header says by itself.
 static void texts(void) {
     static const int numbers[] = {R3_ACCEPTED,     R3_NOT_FINITE,   R3_FIRST,    R3_SECOND,      R3_STATE,        R3_STEP,      R3_PROPERTY,
-                                  R3_COLUMNS,      R3_BORDER,       R3_PAST_END, R3_UNKNOWN_TAG, R3_WRONG_LENGTH, R3_OUT_OF_ORDER, R3_NOT_A_PAIR};
+                                  R3_COLUMNS,      R3_BORDER,       R3_PAST_END, R3_UNKNOWN_TAG, R3_WRONG_LENGTH, R3_OUT_OF_ORDER, R3_NOT_A_PAIR,
+                                  R3_NO_ROOM,      R3_NO_SUCH_PAIR};
     enum { KNOWN = sizeof numbers / sizeof *numbers };
     expect(memcmp(r3_version(), R3_VERSION, sizeof R3_VERSION) == 0, "the version", 0, 0);
     for (int i = 0; i < KNOWN; i++) {
@@ -315,7 +335,7 @@ static void texts(void) {
         }
         expect(r3_refusal_text(numbers[i]) != r3_refusal_text(-1), "a known number's text", i, numbers[i]);
     }
-    expect(strlen(r3_refusal_text(255)) > 0 && r3_refusal_text(255) == r3_refusal_text(-1), "an unknown number has a text", 255, -1);
+    expect(strlen(r3_refusal_text(254)) > 0 && r3_refusal_text(254) == r3_refusal_text(-1), "an unknown number has a text", 254, -1);
 }
 
 // The rounding modes of fenv.h on this processor: to nearest, downward, upward, toward zero.
@@ -402,6 +422,7 @@ int main(void) {
     refusals();
     columns();
     exchange();
+    forward();
     texts();
     rounding();
     printf("region3.h: %d tried, %d failed\n", tried, failed);

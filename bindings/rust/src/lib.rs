@@ -184,6 +184,43 @@ pub fn read(record: &[u8]) -> Result<(Pair, Result<Record, Refusal>), Refusal> {
     Ok((pair, answer))
 }
 
+/// A point of one of the five pairs, each number under its unit.
+#[derive(Clone, Copy, Debug, PartialEq)]
+pub enum Point {
+    /// Pressure and temperature.
+    PT(MPa, Kelvin),
+    /// Temperature and density.
+    TD(Kelvin, KgPerM3),
+    /// Pressure and enthalpy.
+    PH(MPa, KJPerKg),
+    /// Pressure and entropy.
+    PS(MPa, KJPerKgK),
+    /// Enthalpy and entropy.
+    HS(KJPerKg, KJPerKgK),
+}
+
+/// Writes a point's exchange record, 22 bytes, at the front of `out`, if the point's own call accepts it: else that call's refusal, then
+/// [`Refusal::NoRoom`], and nothing is written. Bytes that the record does not need stay as they are.
+///
+/// ```
+/// use region3::{pt, read, write, Kelvin, MPa, Pair, Point};
+/// let mut record = [0; 22];
+/// write(Point::PT(MPa(24.0), Kelvin(650.0)), &mut record)?;
+/// assert_eq!(read(&record), Ok((Pair::PT, pt(MPa(24.0), Kelvin(650.0)))));
+/// # Ok::<(), region3::Refusal>(())
+/// ```
+pub fn write(point: Point, out: &mut [u8]) -> Result<(), Refusal> {
+    let (pair, a, b) = match point {
+        Point::PT(p, t) => (1, p.0, t.0),
+        Point::TD(t, d) => (2, t.0, d.0),
+        Point::PH(p, h) => (3, p.0, h.0),
+        Point::PS(p, s) => (4, p.0, s.0),
+        Point::HS(h, s) => (5, h.0, s.0),
+    };
+    // SAFETY: out is live memory of ours of that length, and the call keeps no pointer.
+    answer(unsafe { raw::r3_write(pair, a, b, out.as_mut_ptr(), out.len()) }, ())
+}
+
 /// One property at a temperature and a density, in the unit that the [`Property`] names.
 pub fn property(property: Property, t: Kelvin, d: KgPerM3) -> Result<f64, Refusal> {
     property_by_number(property.number(), t, d)

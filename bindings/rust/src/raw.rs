@@ -17,6 +17,7 @@ extern "C" {
     pub fn r3_logarithm(x: f64, out: *mut f64) -> u8;
     pub fn r3_exponential(x: f64, out: *mut f64) -> u8;
     pub fn r3_read(bytes: *const u8, length: usize, pair: *mut u8, out: *mut [f64; 10]) -> u8;
+    pub fn r3_write(pair: u8, a: f64, b: f64, out: *mut u8, length: usize) -> u8;
     pub fn r3_columns(
         p: *const f64,
         p_rows: usize,

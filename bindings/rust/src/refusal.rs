@@ -32,6 +32,8 @@ pub enum Refusal {
     OutOfOrder,
     /// 14, of [`read`](crate::read) alone: the known tags are not one of the five pairs.
     NotAPair,
+    /// 16, of [`write`](crate::write) alone: fewer than 22 bytes are lent.
+    NoRoom,
     /// A number that this version of the crate does not know: the library is newer than the crate.
     Other(
         /// The number, which is not 0.
@@ -57,6 +59,7 @@ impl Refusal {
             12 => Refusal::WrongLength,
             13 => Refusal::OutOfOrder,
             14 => Refusal::NotAPair,
+            16 => Refusal::NoRoom,
             other => Refusal::Other(other),
         })
     }
@@ -77,6 +80,7 @@ impl Refusal {
             Refusal::WrongLength => 12,
             Refusal::OutOfOrder => 13,
             Refusal::NotAPair => 14,
+            Refusal::NoRoom => 16,
             Refusal::Other(number) => number,
         }
     }
@@ -98,6 +102,7 @@ impl fmt::Display for Refusal {
             Refusal::WrongLength => "a known field is not of 8 bytes",
             Refusal::OutOfOrder => "a known tag is not above the one before",
             Refusal::NotAPair => "the known tags are not one of the five pairs",
+            Refusal::NoRoom => "fewer than 22 bytes are lent",
             Refusal::Other(number) => return write!(f, "refused with {number}, which this version of the crate does not know"),
         })
     }

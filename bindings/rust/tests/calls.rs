@@ -172,3 +172,27 @@ fn the_exchange_record() {
         assert!(!matches!(Refusal::of(number), Some(Refusal::Other(_))));
     }
 }
+
+#[test]
+fn a_record_written() {
+    let points = [
+        (Point::PT(MPa(24.0), Kelvin(650.0)), Pair::PT),
+        (Point::TD(Kelvin(650.0), KgPerM3(500.0)), Pair::TD),
+        (Point::PH(MPa(25.0), KJPerKg(2095.0)), Pair::PH),
+        (Point::PS(MPa(50.0), KJPerKgK(4.5)), Pair::PS),
+        (Point::HS(KJPerKg(2000.0), KJPerKgK(4.2)), Pair::HS),
+    ];
+    for (point, pair) in points {
+        let mut room = [0xaa; 30];
+        assert_eq!(write(point, &mut room[..21]), Err(Refusal::NoRoom));
+        assert_eq!(room, [0xaa; 30]);
+        assert_eq!(write(point, &mut room), Ok(()));
+        assert_eq!(room[22..], [0xaa; 8]);
+        let (read_as, state) = read(&room[..22]).unwrap();
+        assert_eq!((read_as, state.is_ok()), (pair, true));
+    }
+    assert_eq!(write(Point::PT(MPa(f64::NAN), Kelvin(1.0)), &mut []), Err(Refusal::NotFinite));
+    let mut room = [0; 22];
+    assert_eq!(write(Point::PT(MPa(101.0), Kelvin(650.0)), &mut room), Err(Refusal::First));
+    assert_eq!(room, [0; 22]);
+}

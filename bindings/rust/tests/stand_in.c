@@ -34,3 +34,8 @@ r3_byte r3_read(const r3_byte *bytes, r3_size length, r3_byte *pair, double *out
     out[0] = 7;
     return 200;
 }
+
+r3_byte r3_write(r3_byte pair, double a, double b, r3_byte *out, r3_size length) {
+    if (length) out[0] = pair + (a < b);
+    return 200;
+}

@@ -25,5 +25,6 @@ fn an_unknown_number_is_an_error() {
     assert_eq!(read(&[1]), Ok((Pair::PT, Err(unknown))));
     assert_eq!(read(&[]), Err(unknown));
     assert_eq!(read(&[9]), Err(unknown));
+    assert_eq!(write(Point::PT(p, t), &mut [0; 22]), Err(unknown));
     assert_eq!(columns(&[p], &[t], &mut [0], &mut [d], &mut [0]), Err(unknown));
 }

@@ -1,6 +1,6 @@
 -- Each contract admits one answer: one refusal byte, and one content of what stands behind each pointer. The theorems are about the contracts'
 -- own readings, `Reads.Post`. Assumes nothing.
-use mathlib.Core.Path.{_≡_, sym, _∙_}
+use mathlib.Core.Path.{_≡_, sym, ap, _∙_}
 use mathlib.Core.List.{List}
 use Prim.Native.Nat.{ℕ}
 use lib.Ieee.{Float}
@@ -10,6 +10,8 @@ use denote.Triple.Clauses.{AtExit}
 use borrow.Fn.Kinds.{PK, RK, Out, Dens, endedOf, resT}
 use Rattle.column_run.specs.Columns.{Lent, lent}
 use Rattle.exchange_entry.proofs.Unique.{one-exchange}
+use Rattle.region3_c.proofs.r3_write.Kinds as write-kinds
+use Rattle.region3_c.proofs.r3_write.Reads as write
 use Rattle.region3_c.proofs.r3_read.Kinds as read-kinds
 use Rattle.region3_c.proofs.r3_read.Reads as read
 use Rattle.region3_c.proofs.r3_power.Kinds as power-kinds
@@ -121,3 +123,9 @@ read-one κs a d e x y p q =
   where
     pairs : {A B : Type 0} {a b : A} {c d : B} → a ≡ b → c ≡ d → _≡_ {A = A × B} (a, c) (b, d)
     pairs f g = cc
+
+-- every byte of the room
+pub write-one : OneBehind 1 write-kinds.ps write-kinds.r write.Post (List ℕ) (λ κs d. now (d .1 .1 .1 .0))
+write-one κs a d e x y p q =
+    let same = p ∙ sym q in
+    (ap (λ (z : ℕ × List ℕ). z .0) same, ap (λ (z : ℕ × List ℕ). z .1) same)

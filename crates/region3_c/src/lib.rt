@@ -17,6 +17,7 @@ use common::KgPerM3;
 use common::MPa;
 use common::verdict_byte;
 use exchange_entry::answer;
+use exchange_writer::write_by;
 use exported::exported;
 use exported::exported_exchange;
 use exported::exported_letter;
@@ -33,6 +34,7 @@ use rules::logarithm;
 use rules::power;
 use rules::root;
 use td_record::Td_reg3;
+ghost use mathlib.Core.Path.{_≡_};
 ghost use Rattle.rules.specs.Power.{powerRule};
 ghost use Rattle.rules.specs.Root.{rootRule};
 ghost use Rattle.rules.specs.Log.{logarithmRule};
@@ -46,6 +48,7 @@ ghost use Rattle.record.specs.Record.{report};
 ghost use Rattle.td_record.specs.Steps.{recordRule};
 ghost use Rattle.region3.specs.Entries.{pTRule, phRule, psRule, hsRule};
 ghost use Rattle.column_run.specs.Columns.{lent, columnsRule};
+ghost use Rattle.exchange_writer.specs.Written.{writtenBy};
 ghost use Rattle.region3_c.specs.Exported.{Exported, ExportedLetter, ExportedRecord, ExportedColumns, ExportedRead};
 
 #[no_mangle]
@@ -186,4 +189,12 @@ pub extern "C" fn r3_read(bytes: &[u8], pair: &mut u8, out: &mut [f64; 10]) -> u
     ensures { λ r. ⌜ ExportedRead (now (bytes .entry)) r (now (pair .exit)) (now (out .exit)) ⌝ }
 {
     exported_exchange(answer(lent_record(*out), bytes), pair, out)
+}
+
+// The record of a point, by the byte of its pair: 0 and 22 bytes at the front, or a number and every byte as found.
+#[no_mangle]
+pub extern "C" fn r3_write(pair: u8, a: f64, b: f64, out: &mut [u8]) -> u8
+    ensures { λ r. ⌜ (r, now (out .exit)) ≡ writtenBy pair a b (now (out .entry)) ⌝ }
+{
+    write_by(pair, a, b, out)
 }

@@ -89,3 +89,34 @@ pub fn spelt(tag: u8, body: &[u8]) -> Vec<u8> {
     let size = u16::try_from(body.len()).unwrap().to_be_bytes();
     [&[tag][..], &size, body].concat()
 }
+
+// The writer, from the request's Ask 7 by itself.
+
+pub const FORWARD: usize = 48;
+
+/// Writes the pair's record at the front of the room, or answers the entry's own number, then 16, and writes nothing.
+pub fn write(place: usize, numbers: [f64; 2], room: &mut [u8]) -> u8 {
+    let (tags, _, entry) = PAIRS[place];
+    let refusal = entries::answer(&Row::new(entry, 0, numbers[0], numbers[1])).refusal;
+    if refusal != 0 {
+        return refusal;
+    }
+    let record = [spelt(tags[0], &numbers[0].to_be_bytes()), spelt(tags[1], &numbers[1].to_be_bytes())].concat();
+    match room.get_mut(..record.len()) {
+        None => 16,
+        Some(front) => {
+            front.copy_from_slice(&record);
+            0
+        }
+    }
+}
+
+/// The 48 bytes that the program `forward` answers a row of 24 with.
+pub fn forward(row: &[u8]) -> [u8; FORWARD] {
+    let mut bytes = [0; FORWARD];
+    let room = &mut bytes[8..8 + usize::from(row[1]).min(40)];
+    room.fill(row[2]);
+    let place = PAIRS.iter().position(|p| p.1 == row[0]);
+    bytes[0] = place.map_or(255, |place| write(place, [number(&row[8..16]), number(&row[16..24])], room));
+    bytes
+}

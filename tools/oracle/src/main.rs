@@ -15,6 +15,9 @@ oracle lines                   rows of 16 bytes in, what the program `letters` m
 oracle exchange                records after their lengths in, what the program `exchange` must write out
 oracle records --rows N --seed S
                                writes N records, each after its length
+oracle forward                 rows of 24 bytes in, what the program `forward` must write out
+oracle points --rows N --seed S
+                               writes N rows for it
 oracle rows --rows N --seed S [--entries LIST]
                                writes N rows
 oracle compare --rows N --seed S [--entries LIST] [--ported LIST] -- COMMAND...
@@ -52,6 +55,23 @@ fn run(words: &[String]) -> Result<bool, String> {
             let mut out = BufWriter::new(io::stdout().lock());
             for record in exchange::records(&input) {
                 out.write_all(&exchange::reply(record)).map_err(said)?;
+            }
+            out.flush().map_err(said)?;
+        }
+        "forward" => {
+            let mut input = Vec::new();
+            io::stdin().read_to_end(&mut input).map_err(said)?;
+            let mut out = BufWriter::new(io::stdout().lock());
+            for row in input.chunks_exact(ROW) {
+                out.write_all(&exchange::forward(row)).map_err(said)?;
+            }
+            out.flush().map_err(said)?;
+        }
+        "points" => {
+            let asked = Asked::read(&words[1..])?;
+            let mut out = BufWriter::new(io::stdout().lock());
+            for row in make::records::points(asked.count, asked.seed) {
+                out.write_all(&row).map_err(said)?;
             }
             out.flush().map_err(said)?;
         }

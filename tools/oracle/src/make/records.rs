@@ -148,3 +148,43 @@ pub fn stream(count: usize, seed: u64) -> impl Iterator<Item = Vec<u8>> {
         [&size[..], &record].concat()
     })
 }
+
+/// A row of the program `forward`.
+fn point(pair: u8, room: u8, fill: u8, a: f64, b: f64) -> Vec<u8> {
+    [&[pair, room, fill, 0, 0, 0, 0, 0][..], &a.to_bits().to_le_bytes(), &b.to_bits().to_le_bytes()].concat()
+}
+
+/// Rows of the program `forward`: the request's own first, every room and every pair byte, then points in and around the ranges.
+pub fn points(count: usize, seed: u64) -> impl Iterator<Item = Vec<u8>> {
+    let mut rows = vec![
+        point(1, 22, 0xaa, 24.0, 650.0),
+        point(1, 21, 0xaa, 24.0, 650.0),
+        point(1, 0, 0xaa, 18.0, 640.0),
+        point(1, 0, 0xaa, f64::NAN, 1.0),
+        point(1, 30, 0xaa, 24.0, 650.0),
+    ];
+    for byte in 0..=255 {
+        rows.push(point(1, byte, 0x5a, 24.0, 650.0));
+        rows.push(point(1, byte, 0x5a, 101.0, 650.0));
+        rows.push(point(byte, 40, byte, 700.0, 500.0));
+    }
+    for x in points::SPECIAL {
+        for pair in 1..=5 {
+            rows.push(point(pair, 40, 7, x, 650.0));
+            rows.push(point(pair, 40, 7, 24.0, x));
+        }
+    }
+    let mut random = Random::new(seed);
+    let made = std::iter::from_fn(move || {
+        let pair = 1 + random.below(5);
+        let (entry, _) = TAGS[pair as usize - 1];
+        let row = states::any(entry, &mut random);
+        let room = if random.one_in(4) { random.below(48) } else { 22 + random.below(19) };
+        let mut bytes = point(pair as u8, room as u8, random.next() as u8, row.first, row.second);
+        for byte in &mut bytes[3..8] {
+            *byte = random.next() as u8;
+        }
+        Some(bytes)
+    });
+    rows.into_iter().chain(made).take(count)
+}

@@ -1,0 +1,92 @@
+// Writes exchange records: rows of 24 bytes from standard input (pair, room, fill byte, two f64), for each 48 bytes on standard output, its refusal and its room.
+// Standard error has what was not answered and why: bytes after the last whole row, a failed read, a failed write.
+use buffer::byte_at;
+use buffer::float_at;
+use common::least;
+use exchange_writer::write_by;
+use libc::STDERR_FILENO;
+use libc::STDOUT_FILENO;
+use stdio::Stop;
+
+// The loop ends by this number of rows, which no run reaches.
+const MOST: u64 = 0xffff_ffff_ffff_ffff;
+
+// A row's room is at most this.
+const ROOM: usize = 40;
+
+fn fill(out: &mut [u8], byte: u8) {
+    let mut k = 0;
+    while k < out.len() {
+        out[k] = byte;
+        k += 1;
+    }
+}
+
+// The room of a row, filled and written to. Answers the refusal.
+fn fill_and_put(out: &mut [u8], row: &[u8]) -> u8 {
+    fill(out, byte_at(row, 2));
+    write_by(byte_at(row, 0), float_at(row, 8), float_at(row, 16), out)
+}
+
+fn reply(row: &[u8]) -> [u8; 48] {
+    let mut out = [0u8; 48];
+    let end = 8 + least(byte_at(row, 1) as usize, ROOM);
+    let refusal = fill_and_put(&mut out[8..end], row);
+    out[0] = refusal;
+    out
+}
+
+// Says how many rows were answered, and how many bytes are left after them.
+fn say_end(done: u64, left: usize) {
+    stdio::say(b"forward: rows ");
+    io::print_decimal(STDERR_FILENO, done);
+    stdio::say(b" left ");
+    io::print_decimal(STDERR_FILENO, left as u64);
+    stdio::say(b"\n");
+}
+
+fn send_reply(row: &[u8]) -> bool {
+    let bytes = reply(row);
+    stdio::send(b"forward: writing", STDOUT_FILENO, &bytes)
+}
+
+// One turn: a row. Answers whether to go on.
+fn turn(done: u64) -> bool {
+    let mut row = [0u8; 24];
+    let reading = stdio::read_until_full(b"forward: standard input", &mut row);
+    let have = reading.have;
+    let stop = reading.stop;
+    match stop {
+        Stop::Full => send_reply(&row),
+        Stop::Ended => {
+            if have > 0 {
+                say_end(done, have);
+            }
+            false
+        }
+        Stop::Failed => {
+            say_end(done, have);
+            false
+        }
+    }
+}
+
+fn run() {
+    let mut done: u64 = 0;
+    while done < MOST {
+        if !turn(done) {
+            return;
+        }
+        done += 1;
+    }
+    stdio::say(b"forward: no number is left for the next row\n");
+}
+
+fn main() {
+    if stdio::from_terminal(
+        b"forward: the exchange record of each row: reads rows of 24 bytes (pair, room, fill byte, two f64) from a file or a pipe, not from a terminal\n",
+    ) {
+        return;
+    }
+    run();
+}
