@@ -12,7 +12,7 @@ ghost use Prim.Native.Nat.{_+_, _<_, _^_};
 ghost use lib.Seq.{sets};
 ghost use Rattle.entries.specs.Rows.{replyAt, rowsIn, repliesTo, recordAgrees};
 
-pub fn reply_at(s: &[u8], at: usize) -> Reply
+fn reply_at(s: &[u8], at: usize) -> Reply
     requires { ⌜ at + 24 < 2 ^ 64 ⌝ }
     ensures { λ r. ⌜ r ≡ replyAt (now (s .entry)) at ⌝ }
 {
