@@ -44,15 +44,15 @@ typedef unsigned char r3_byte;
 /* Why a call is refused, in the order in which it is found: 7, 6, 1, 2, 3, 8, then 4 or 5 at the first step that meets either. Later versions add
  * numbers: anything but 0 is a refusal. */
 enum {
-    R3_ACCEPTED = 0,   /* accepted */
-    R3_NOT_FINITE = 1, /* an argument is NaN or infinite */
-    R3_FIRST = 2,      /* the first argument is outside its range */
-    R3_SECOND = 3,     /* the second argument is outside its range */
-    R3_STATE = 4,      /* a p, T or d of the state, worked out by the call, is outside its range */
-    R3_STEP = 5,       /* a step gives a number that is not finite, or a root of a negative or a logarithm of a number not above 0 is taken */
-    R3_PROPERTY = 6,   /* the property's number is unknown */
-    R3_COLUMNS = 7,    /* the columns are of unequal length */
-    R3_BORDER = 8,     /* T is above the border with region 2 at p: r3_pt, r3_letter, a row of r3_columns */
+    R3_ACCEPTED = 0,    /* accepted */
+    R3_NOT_FINITE = 1,  /* an argument is NaN or infinite */
+    R3_FIRST = 2,       /* the first argument is outside its range */
+    R3_SECOND = 3,      /* the second argument is outside its range */
+    R3_STATE = 4,       /* a p, T or d of the state, worked out by the call, is outside its range */
+    R3_STEP = 5,        /* a step gives a number that is not finite, or a root of a negative or a logarithm of a number not above 0 is taken */
+    R3_PROPERTY = 6,    /* the property's number is unknown */
+    R3_COLUMNS = 7,     /* the columns are of unequal length */
+    R3_BORDER = 8,      /* T is above the border with region 2 at p */
     /* of r3_read alone, before the pair's own numbers: at the first field that meets one, and 14 at the end */
     R3_PAST_END = 10,      /* a field or its header runs past the end */
     R3_UNKNOWN_TAG = 11,   /* a field's tag is unknown */
@@ -181,17 +181,17 @@ static __inline__ const char *r3_refusal_text(int number) {
     case R3_FIRST: return "the first argument is outside its range";
     case R3_SECOND: return "the second argument is outside its range";
     case R3_STATE: return "a p, T or d of the state, worked out by the call, is outside its range";
-    case R3_STEP: return "a step gives a number that is not finite";
+    case R3_STEP: return "a step gives a number that is not finite, or a root of a negative or a logarithm of a number not above 0 is taken";
     case R3_PROPERTY: return "the property's number is unknown";
     case R3_COLUMNS: return "the columns are of unequal length";
-    case R3_BORDER: return "T is above the border with region 2";
+    case R3_BORDER: return "T is above the border with region 2 at p";
     case R3_PAST_END: return "a field or its header runs past the end";
     case R3_UNKNOWN_TAG: return "a field's tag is unknown";
     case R3_WRONG_LENGTH: return "a known field is not of 8 bytes";
     case R3_OUT_OF_ORDER: return "a known tag is not above the one before";
+    case R3_NOT_A_PAIR: return "the known tags are not one of the five pairs";
     case R3_NO_ROOM: return "fewer than 22 bytes are lent";
     case R3_NO_SUCH_PAIR: return "no pair has this byte";
-    case R3_NOT_A_PAIR: return "the known tags are not one of the five pairs";
     }
     return "refused, by a number that this header does not know";
 }

@@ -1,7 +1,8 @@
 -- An answer is determined by the paper's number and value, so a contract `paper r ≡ rule arguments` admits one answer. Assumes nothing.
 use mathlib.Core.Path.{_≡_, refl, sym, ap, _∙_}
-use Prim.Native.Nat.{ℕ, zero, suc}
-use mathlib.Core.List.{List}
+use Prim.Native.Nat.{ℕ}
+use mathlib.Core.List.{List, [], _∷_}
+use lib.ListN.{getD}
 use lib.Ieee.{Float}
 use contract.Lifetimes.{Lfts}
 use denote.Triple.Clauses.{AtExit}
@@ -15,19 +16,17 @@ use Rattle.common.specs.declared.Answer.the-variants as answer
 use Rattle.common.specs.declared.Verdict.{Verdict}
 use Rattle.common.specs.declared.Verdict.the-variants as verdicts
 
+-- the refusals by their numbers, from 0 on; Step stands where no refusal has the number
+kinds : List Refusal
+kinds =
+    Step ∷ NotFinite ∷ First ∷ Second ∷ State ∷ Step ∷ Property ∷ Columns ∷ Border ∷ []
+
 pub kindOf : ℕ → Refusal
-kindOf zero = Step
-kindOf (suc zero) = NotFinite
-kindOf (suc (suc zero)) = First
-kindOf (suc (suc (suc zero))) = Second
-kindOf (suc (suc (suc (suc zero)))) = State
-kindOf (suc (suc (suc (suc (suc zero))))) = Step
-kindOf (suc (suc (suc (suc (suc (suc zero)))))) = Property
-kindOf (suc (suc (suc (suc (suc (suc (suc zero))))))) = Columns
-kindOf (suc (suc (suc (suc (suc (suc (suc (suc n)))))))) = Border
+unfolding kinds
+kindOf n = getD kinds n Step
 
 pub kind-number : (k : Refusal) → kindOf (numberOf k) ≡ k
-unfolding kindOf
+unfolding kindOf kinds
 kind-number NotFinite = refl
 kind-number First = refl
 kind-number Second = refl

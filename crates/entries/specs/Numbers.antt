@@ -3,9 +3,9 @@ use Prim.Native.Nat.{ℕ}
 use mathlib.Core.List.{List, [], _∷_}
 use lib.ListN.{getD}
 use Rattle.entries.specs.declared.Entry.{Entry}
-use Rattle.entries.specs.declared.Entry.the-variants.{Unnamed, Power, Root, Logarithm, Exponential, PSaturation, TSaturation, Boundary, Letter, LetterVolume, Volume, PhaseVolume, PhT, PhV, PsT, PsV, HsP, TdRecord, PtRecord, PhRecord, PsRecord, HsRecord, Property, ColumnRow, BorderT, BorderP, CpW}
+use Rattle.entries.specs.declared.Entry.the-variants.{Unnamed, Power, Root, Logarithm, Exponential, PSaturation, TSaturation, Boundary, Letter, LetterVolume, Volume, PhaseVolume, PhT, PhV, PsT, PsV, HsP, BorderT, BorderP, TdRecord, PtRecord, PhRecord, PsRecord, HsRecord, Property, ColumnRow, CpW}
 
--- 0 to 34
+-- from 0 on
 abbrev pub numbered : List Entry
 numbered =
     Unnamed ∷ Power ∷ Root ∷ Logarithm ∷ Exponential ∷ PSaturation ∷ TSaturation ∷ Boundary ∷ Letter ∷ LetterVolume

@@ -3,7 +3,7 @@ use crate::Entry;
 ghost use mathlib.Core.Path.{_≡_};
 ghost use Rattle.entries.specs.Numbers.{entryOf};
 
-// No entry has 0, 17, 26 to 29, 31 to 33, or a number above 34.
+// A number that no entry has is Unnamed.
 pub fn entry_of(number: u8) -> Entry
     ensures { λ r. ⌜ r ≡ entryOf number ⌝ }
 {

@@ -17,6 +17,7 @@ pub const T_LINE: Range = (623.15, 647.096);
 pub const EXPONENT: Range = (-700.0, 700.0);
 pub const POWER: (i32, i32) = (-64, 64);
 
+// The refusals of docs/SCOPE.md.
 pub const NOT_FINITE: u8 = 1;
 pub const FIRST: u8 = 2;
 pub const SECOND: u8 = 3;
