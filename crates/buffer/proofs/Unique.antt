@@ -6,18 +6,25 @@ use contract.Lifetimes.{Lfts}
 use denote.Triple.Clauses.{AtExit}
 use borrow.Fn.Kinds.{Dens, endedOf, resT}
 use Rattle.common.proofs.Same.{One}
+use Rattle.buffer.proofs.lies.Kinds as lies-kinds
+use Rattle.buffer.proofs.lies.Reads as lies
 use Rattle.buffer.proofs.byte_at.Kinds as byte-at-kinds
 use Rattle.buffer.proofs.byte_at.Reads as byte-at
 use Rattle.buffer.proofs.wide.Kinds as wide-kinds
 use Rattle.buffer.proofs.wide.Reads as wide
 use Rattle.buffer.proofs.int_at.Kinds as int-at-kinds
 use Rattle.buffer.proofs.int_at.Reads as int-at
+use Rattle.buffer.proofs.float_of.Kinds as float-of-kinds
+use Rattle.buffer.proofs.float_of.Reads as float-of
 use Rattle.buffer.proofs.float_at.Kinds as float-at-kinds
 use Rattle.buffer.proofs.float_at.Reads as float-at
 use Rattle.buffer.proofs.put_word.Kinds as put-word-kinds
 use Rattle.buffer.proofs.put_word.Reads as put-word
 use Rattle.buffer.proofs.put_float.Kinds as put-float-kinds
 use Rattle.buffer.proofs.put_float.Reads as put-float
+
+pub lies-one : One 0 lies-kinds.ps lies-kinds.r lies.Post
+lies-one κs a e x y p q = p ∙ sym q
 
 pub byte-at-one : One 1 byte-at-kinds.ps byte-at-kinds.r byte-at.Post
 byte-at-one κs a e x y p q = p ∙ sym q
@@ -27,6 +34,9 @@ wide-one κs a e x y p q = p .0 ∙ sym (q .0)
 
 pub int-at-one : One 1 int-at-kinds.ps int-at-kinds.r int-at.Post
 int-at-one κs a e x y p q = p ∙ sym q
+
+pub float-of-one : One 0 float-of-kinds.ps float-of-kinds.r float-of.Post
+float-of-one κs a e x y p q = p ∙ sym q
 
 pub float-at-one : One 1 float-at-kinds.ps float-at-kinds.r float-at.Post
 float-at-one κs a e x y p q = p ∙ sym q

@@ -4,11 +4,11 @@ ghost use Prim.Native.Nat.{_+_, _≤_, _<_, _^_, _%_};
 ghost use lib.Dec.{leb};
 ghost use lib.ListN.{length, getD};
 ghost use lib.Seq.{sets};
-ghost use lib.Ieee.{binary64, toBits};
+ghost use lib.Ieee.{binary64, ofBits, toBits};
 ghost use Rattle.buffer.specs.Bytes.{halfAt, wordAt, signed, intIn, floatIn, eight, placed};
 
 // Whether k bytes from an index on lie in n bytes.
-fn lies(at: usize, k: usize, n: usize) -> bool
+pub fn lies(at: usize, k: usize, n: usize) -> bool
     ensures { λ r. ⌜ r ≡ leb (at + k) n ⌝ }
 {
     if k <= n { at <= n - k } else { false }
@@ -66,16 +66,21 @@ pub fn int_at(s: &[u8], at: usize) -> i32
     0
 }
 
-// A NaN pattern gives a NaN: from_bits is not defined there.
+// The number of its bits. Every pattern of a NaN is the one NaN: from_bits is not defined there.
+pub fn float_of(n: u64) -> f64
+    ensures { λ r. ⌜ r ≡ ofBits binary64 n ⌝ }
+{
+    if n % 0x8000_0000_0000_0000 > 0x7ff0_0000_0000_0000 {
+        return 0.0 / 0.0;
+    }
+    f64::from_bits(n)
+}
+
 pub fn float_at(s: &[u8], at: usize) -> f64
     ensures { λ r. ⌜ r ≡ floatIn (now (s .entry)) at ⌝ }
 {
     if lies(at, 8, s.len()) {
-        let n = word_at(s, at);
-        if n % 0x8000_0000_0000_0000 > 0x7ff0_0000_0000_0000 {
-            return 0.0 / 0.0;
-        }
-        return f64::from_bits(n);
+        return float_of(word_at(s, at));
     }
     0.0
 }

@@ -13,8 +13,6 @@ use Rattle.exchange_record.specs.declared.ReadAnswer.{ReadAnswer}
 use Rattle.exchange_record.specs.declared.ReadAnswer.the-variants as answer
 use Rattle.exchange_record.specs.Reading.{readNumber, paperRead}
 use Rattle.exchange_record.proofs.Exchange.{one-outcome}
-use Rattle.exchange_record.proofs.number.float_of.Kinds as float-of-kinds
-use Rattle.exchange_record.proofs.number.float_of.Reads as float-of
 use Rattle.exchange_record.proofs.reader.read_number.Kinds as read-number-kinds
 use Rattle.exchange_record.proofs.reader.read_number.Reads as read-number
 use Rattle.exchange_record.proofs.reader.pair_byte.Kinds as pair-byte-kinds
@@ -44,9 +42,6 @@ read-back (answer.Refused k) = ap answer.Refused (read-kind k)
 
 pub same-read : (o : Outcome Asked) (r s : ReadAnswer) → paperRead r ≡ o → paperRead s ≡ o → r ≡ s
 same-read = same paperRead readOf read-back
-
-pub float-of-one : One 0 float-of-kinds.ps float-of-kinds.r float-of.Post
-float-of-one κs a e x y p q = p ∙ sym q
 
 pub read-number-one : One 0 read-number-kinds.ps read-number-kinds.r read-number.Post
 read-number-one κs a e x y p q = p ∙ sym q

@@ -4,7 +4,6 @@ mod field;
 mod number;
 mod reader;
 
-pub use number::float_of;
 pub use reader::pair_byte;
 pub use reader::read;
 pub use reader::read_number;

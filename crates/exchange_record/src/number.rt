@@ -1,9 +1,8 @@
-// Eight bytes of a field as the bits of a number, the high byte first, and the number of such bits.
+// Eight bytes of a field as the bits of a number, the high byte first.
 use buffer::wide;
 ghost use mathlib.Core.Path.{_≡_};
 ghost use Prim.Native.Nat.{_+_, _≤_, _<_, _^_};
 ghost use lib.ListN.{length, getD, take, drop};
-ghost use lib.Ieee.{binary64, ofBits};
 ghost use Rattle.exchange_record.specs.Grammar.{word};
 ghost use Rattle.exchange_record.specs.Walk.{halfAt};
 
@@ -23,14 +22,4 @@ pub fn word_at(s: &[u8], at: usize) -> u64
     ensures { λ r. ⌜ r ≡ word (take 8 (drop at (now (s .entry)))) ⌝ }
 {
     0x1_0000_0000 * half_at(s, at) + half_at(s, at + 4)
-}
-
-// The number of bits as they were read: every pattern of a NaN is the one NaN.
-pub fn float_of(bits: u64) -> f64
-    ensures { λ r. ⌜ r ≡ ofBits binary64 bits ⌝ }
-{
-    if bits % 0x8000_0000_0000_0000 > 0x7ff0_0000_0000_0000 {
-        return 0.0 / 0.0;
-    }
-    f64::from_bits(bits)
 }

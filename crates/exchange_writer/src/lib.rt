@@ -12,9 +12,6 @@ use exchange_entry::Point;
 use exchange_entry::ask;
 use record::blank;
 ghost use mathlib.Core.Path.{_≡_};
-ghost use Prim.Native.Nat.{_≤_};
-ghost use lib.ListN.{length};
-ghost use lib.Seq.{sets};
 ghost use Rattle.common.specs.Outcome.{numberIn};
 ghost use Rattle.common.specs.Answer.{paperVerdict};
 ghost use Rattle.exchange_writer.specs.Written.{twoFields, recordOf, roomRule, after, writeRule, paperWrite, writeNumber, writtenBy};
@@ -77,17 +74,6 @@ fn record_of(point: Point) -> [u8; 22]
     }
 }
 
-fn copy(out: &mut [u8], bytes: &[u8])
-    requires { ⌜ length (now bytes) ≤ length (now out) ⌝ }
-    ensures { λ _. ⌜ now (out .exit) ≡ sets (now (out .entry)) 0 (now (bytes .entry)) ⌝ }
-{
-    let mut k = 0;
-    while k < bytes.len() {
-        out[k] = bytes[k];
-        k += 1;
-    }
-}
-
 // The record of an accepted point, where it has room.
 fn put(point: Point, out: &mut [u8]) -> WriteVerdict
     ensures { λ r. ⌜ (paperWrite r, now (out .exit)) ≡ roomRule point (now (out .entry)) ⌝ }
@@ -96,7 +82,7 @@ fn put(point: Point, out: &mut [u8]) -> WriteVerdict
         return WriteVerdict::Refused(WriteRefusal::Room);
     }
     let bytes = record_of(point);
-    copy(out, &bytes);
+    text::put(out, 0, &bytes);
     WriteVerdict::Accepted
 }
 

@@ -12,8 +12,9 @@ use Rattle.r4.specs.Saturation.{p-saturation}
 use Rattle.border.specs.Border.{B23-p2T, besideBorder, region3Box}
 use Rattle.boundary.specs.Boundary.{formRule, straight3ef, table3cd, table3gh, table3ij, table3jk}
 use Rattle.boundary.specs.Choice.{letterRule, letterAt, limit, chijkRule}
-use Rattle.rows.specs.Lines.{bytesOf, digitsIn, decimal, lineOf, blockOf, lastLine, outputOf}
+use Rattle.rows.specs.Lines.{lineOf, blockOf, lastLine, outputOf}
 use Rattle.buffer.specs.Bytes.{joined, floatAt}
+use Rattle.text.specs.Text.{bytesOf, digitsIn, decimal}
 
 -- (24,650), (24,655), (101,650)
 pub bytes : List ℕ

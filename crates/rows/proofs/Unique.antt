@@ -1,20 +1,15 @@
 -- Each contract admits one answer and one content of each lent buffer. The theorems are about the contracts' own readings, `Reads.Post`.
 -- Assumes nothing.
 use mathlib.Core.Path.{_≡_, sym, _∙_}
-use mathlib.Core.List.{List}
-use Prim.Native.Nat.{ℕ}
 use denote.Ref.{now}
 use contract.Lifetimes.{Lfts}
 use denote.Triple.Clauses.{AtExit}
 use borrow.Fn.Kinds.{Dens, endedOf, resT}
-use Rattle.rows.specs.Lines.{Wrote}
+use Rattle.text.proofs.Unique.{wrote-one}
 use Rattle.rows.proofs.page.Kinds as page-kinds
 use Rattle.rows.proofs.page.Reads as page
 use Rattle.rows.proofs.last_line.Kinds as last-line-kinds
 use Rattle.rows.proofs.last_line.Reads as last-line
-
-pub wrote-one : {l xs m k : List ℕ} {at r q : ℕ} → Wrote l at xs m r → Wrote l at xs k q → (r ≡ q) × (m ≡ k)
-wrote-one a b = (a .ends ∙ sym (b .ends), a .holds ∙ sym (b .holds))
 
 -- the answer, the lines and the two columns
 pub page-one : (κs : Lfts 4) (a : Dens κs page-kinds.ps) (d e : AtExit (endedOf 4 page-kinds.ps page-kinds.r) κs) (x y : resT page-kinds.r κs .Denot) →

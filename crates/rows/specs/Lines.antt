@@ -1,25 +1,16 @@
 -- What `letters` reads and writes, byte by byte (docs/SCOPE.md). Assumes nothing: these are definitions.
-use mathlib.Core.Bool.{cond}
-use Prim.Native.Nat.{ℕ, zero, suc, _+_, _*_, _-_, _/_, _%_, _^_, min}
+use Prim.Native.Nat.{ℕ, _+_, _*_, _-_, _/_, _%_, _^_, min}
 use Prim.Native.Char.{code}
-use Prim.Native.String.{String}
-use Prim.Native.String as string
 use mathlib.Core.List.{List, [], _∷_, _++_}
 use mathlib.Core.Path.{_≡_}
-use lib.Dec.{ltb}
 use lib.ListN.{length, getD}
-use lib.Seq.{sets}
 use lib.Ieee.{Float, nan}
 use Rattle.common.specs.Outcome.{Outcome, value, refused, numberIn}
 use Rattle.subregion.specs.declared.Letter.{Letter}
 use Rattle.subregion.specs.Letter.{asciiOf}
 use Rattle.boundary.specs.Choice.{letterRule}
 use Rattle.buffer.specs.Bytes.{joined, floatAt}
-
--- the bytes xs stand in the buffer from `at` on, the next place is past them, and every other byte is as it was
-pub record Wrote (old : List ℕ) (at : ℕ) (xs : List ℕ) (new : List ℕ) (next : ℕ) : Type 0 where
-  pub ends : next ≡ at + length xs
-  pub holds : new ≡ sets old at xs
+use Rattle.text.specs.Text.{bytesOf, decimal}
 
 -- p and T of row i, of 16 bytes
 abbrev pub pAt : List ℕ → ℕ → Float
@@ -34,20 +25,6 @@ pColumn s n = joined (λ i. pAt s i ∷ []) n
 
 abbrev pub tColumn : List ℕ → ℕ → List Float
 tColumn s n = joined (λ i. tAt s i ∷ []) n
-
--- the bytes of an ASCII text
-abbrev pub bytesOf : String → List ℕ
-bytesOf string.[] = []
-bytesOf (string._∷_ c s) = code c ∷ bytesOf s
-
--- a number in decimal: its last digit and, where it is not below 10, its tenth part before it
-unfoldable pub digitsIn : ℕ → ℕ → List ℕ
-digitsIn zero n = (code "0" + n % 10) ∷ []
-digitsIn (suc k) n = cond (ltb n 10) [] (digitsIn k (n / 10)) ++ ((code "0" + n % 10) ∷ [])
-
--- n turns are enough
-unfoldable pub decimal : ℕ → List ℕ
-decimal n = digitsIn n n
 
 -- the letter or '-'
 abbrev pub markIn : Outcome Letter → ℕ

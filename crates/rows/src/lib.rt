@@ -3,15 +3,16 @@
 mod put;
 mod take;
 
-use put::put;
-use put::put_decimal;
 use put::put_lines;
 use take::take_rows;
+use text::put;
+use text::put_decimal;
 ghost use mathlib.Core.Path.{_≡_};
 ghost use Prim.Native.Nat.{_≤_, min};
 ghost use lib.ListN.{length};
 ghost use lib.Seq.{sets};
-ghost use Rattle.rows.specs.Lines.{pColumn, tColumn, rowsIn, pageOf, lastLine, endOf, Wrote};
+ghost use Rattle.text.specs.Text.{Wrote};
+ghost use Rattle.rows.specs.Lines.{pColumn, tColumn, rowsIn, pageOf, lastLine, endOf};
 
 fn least(a: u64, b: u64) -> u64
     ensures { λ r. ⌜ r ≡ min a b ⌝ }

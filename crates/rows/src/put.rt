@@ -5,44 +5,14 @@ use common::MPa;
 use subregion::LetterAnswer;
 use subregion::ascii;
 use subregion::refusal_byte;
+use text::put;
+use text::put_decimal;
 ghost use mathlib.Core.Path.{_≡_};
-ghost use Prim.Native.Nat.{_+_, _*_, _≤_, _<_, _^_, _%_};
+ghost use Prim.Native.Nat.{_+_, _*_, _≤_, _<_, _^_};
 ghost use lib.ListN.{length};
 ghost use Rattle.subregion.specs.Letter.{paperLetter};
-ghost use Rattle.rows.specs.Lines.{decimal, markIn, lineOf, linesOf, Wrote};
-
-// All of src.
-pub fn put(out: &mut [u8], at: usize, src: &[u8]) -> usize
-    requires { ⌜ at + length (now src) ≤ length (now out) ⌝ }
-    ensures { λ r. ⌜ Wrote (now (out .entry)) at (now (src .entry)) (now (out .exit)) r ⌝ }
-{
-    let mut i = 0;
-    while i < src.len() {
-        out[at + i] = src[i];
-        i += 1;
-    }
-    at + i
-}
-
-fn digit(n: u64) -> u8
-    ensures { λ r. ⌜ r ≡ 48 + n % 10 ⌝ }
-{
-    48 + (n % 10) as u8
-}
-
-// A number in decimal.
-pub fn put_decimal(out: &mut [u8], at: usize, n: u64) -> usize
-    requires { ⌜ at + length (decimal n) ≤ length (now out) ⌝ }
-    ensures { λ r. ⌜ Wrote (now (out .entry)) at (decimal n) (now (out .exit)) r ⌝ }
-{
-    if n < 10 {
-        out[at] = digit(n);
-        return at + 1;
-    }
-    let next = put_decimal(out, at, n / 10);
-    out[next] = digit(n);
-    next + 1
-}
+ghost use Rattle.text.specs.Text.{Wrote};
+ghost use Rattle.rows.specs.Lines.{markIn, lineOf, linesOf};
 
 fn mark(c: LetterAnswer) -> u8
     ensures { λ r. ⌜ r ≡ markIn (paperLetter c) ⌝ }
@@ -53,9 +23,9 @@ fn mark(c: LetterAnswer) -> u8
     }
 }
 
-// The line of one row, of 27 bytes at most.
+// The line of one row, of 27 bytes at most; `put_decimal` wants 17 more.
 fn put_line(out: &mut [u8], at: usize, row: u64, c: LetterAnswer) -> usize
-    requires { ⌜ at + 27 ≤ length (now out) ⌝ }
+    requires { ⌜ at + 44 ≤ length (now out) ⌝ }
     ensures { λ r. ⌜ Wrote (now (out .entry)) at (lineOf row (paperLetter c)) (now (out .exit)) r ⌝ }
     ensures { λ r. ⌜ r ≤ at + 27 ⌝ }
 {
@@ -67,7 +37,7 @@ fn put_line(out: &mut [u8], at: usize, row: u64, c: LetterAnswer) -> usize
 
 // The lines of the first n rows of the columns, from index 0 on.
 pub fn put_lines(ps: &[f64], ts: &[f64], n: usize, done: u64, out: &mut [u8]) -> usize
-    requires { ⌜ (n ≤ length (now ps)) × (n ≤ length (now ts)) × (27 * n ≤ length (now out)) × (done + n < 2 ^ 64) ⌝ }
+    requires { ⌜ (n ≤ length (now ps)) × (n ≤ length (now ts)) × (27 * n + 17 ≤ length (now out)) × (done + n < 2 ^ 64) ⌝ }
     ensures { λ r. ⌜ Wrote (now (out .entry)) 0 (linesOf done (now (ps .entry)) (now (ts .entry)) n) (now (out .exit)) r ⌝ }
     ensures { λ r. ⌜ r ≤ 27 * n ⌝ }
 {

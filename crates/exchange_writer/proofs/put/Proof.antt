@@ -8,6 +8,7 @@ use lib.Seq.{sets}
 use borrow.Author.Needs.{needs}
 use borrow.Author.Tests.{lt-ltb, le-ltb}
 use Rattle.common.specs.Outcome.{value}
+use Rattle.text.proofs.Laws.{fitted}
 use Rattle.exchange_writer.proofs.Laws.{record-length}
 use Rattle.exchange_writer.proofs.put.Statement.{statement}
 use Rattle.exchange_writer.proofs.put.Tie as tie
@@ -15,19 +16,14 @@ use Rattle.exchange_writer.proofs.put.Tie as tie
 returns : tie.Need-returns
 returns c = rw (lt-ltb _ _ (c .if1 .taken))
 
-copy-requires : tie.Need-copy-requires
-copy-requires c κs =
-    let a = c .before .before .before .before .before .args in
-    let e : length (c .before .before .record-of .result) ≡ 22 = ap length (c .before .before .record-of .ensures) ∙ record-length (a .point) in
-    omega arith
-
 returns-2 : tie.Need-returns-2
 returns-2 c =
     let e1 = c .before .before .before .before .before .before in
     let a = e1 .before .before .args in
-    rw (le-ltb _ _ (e1 .if1 .left))
-    (ap (λ (m : List ℕ). (value tt, m))
-    (c .before .before .copy .ensures ∙ ap (λ (m : List ℕ). sets (a .out .now) 0 m) (c .before .before .before .before .before .record-of .ensures)))
+    let bytes = c .before .before .before .before .before .record-of in
+    let long : length (bytes .result) ≡ 22 = ap length (bytes .ensures) ∙ record-length (a .point) in
+    let wrote = fitted (length (bytes .result)) (omega (arith, long, e1 .if1 .left)) (c .before .before .put .ensures) in
+    rw (le-ltb _ _ (e1 .if1 .left)) (ap (λ (m : List ℕ). (value tt, m)) (wrote .holds ∙ ap (λ (m : List ℕ). sets (a .out .now) 0 m) (bytes .ensures)))
 
 pub put-spec : {M : Type 1} → statement M
-put-spec = tie.close (tie.spec returns (λ c κs. search needs) (λ c. search needs) copy-requires (λ c. search needs) returns-2)
+put-spec = tie.close (tie.spec returns (λ c κs. search needs) (λ c. search needs) (λ c κs. search needs) (λ c. search needs) returns-2)

@@ -3,7 +3,8 @@ use mathlib.Core.Path.{subst}
 use Prim.Native.Nat.{ℕ, _+_, _*_, _-_}
 use lib.ListN.{length}
 use borrow.Author.Needs.{needs}
-use Rattle.rows.specs.Lines.{lastLine, Wrote}
+use Rattle.text.specs.Text.{Wrote}
+use Rattle.rows.specs.Lines.{lastLine}
 use Rattle.rows.proofs.last_line.Statement.{statement}
 use Rattle.rows.proofs.last_line.Tie as tie
 

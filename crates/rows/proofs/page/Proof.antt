@@ -7,7 +7,8 @@ use lib.Ieee.{Float}
 use lib.ListN.{length}
 use lib.Seq.{sets}
 use borrow.Author.Needs.{needs}
-use Rattle.rows.specs.Lines.{linesOf, blockOf, pageOf, pColumn, tColumn, rowsIn, Wrote}
+use Rattle.text.specs.Text.{Wrote}
+use Rattle.rows.specs.Lines.{linesOf, blockOf, pageOf, pColumn, tColumn, rowsIn}
 use Rattle.rows.proofs.Laws.{lines-of-bytes}
 use Rattle.rows.proofs.page.Statement.{statement}
 use Rattle.rows.proofs.page.Tie as tie

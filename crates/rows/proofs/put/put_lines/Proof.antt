@@ -5,7 +5,8 @@ use native.Mathlib.Nat.{le-antisymm, add-zero}
 use native.Mathlib.Omega.{arith}
 use borrow.Author.Needs.{needs}
 use lib.ListN.{length}
-use Rattle.rows.specs.Lines.{linesOf, Wrote}
+use Rattle.text.specs.Text.{Wrote}
+use Rattle.rows.specs.Lines.{linesOf}
 use Rattle.rows.proofs.Laws.{lines-none, lines-step}
 use Rattle.rows.proofs.put.put_lines.Statement.{statement}
 use Rattle.rows.proofs.put.put_lines.Tie as tie

@@ -1,4 +1,4 @@
--- `rows::put::put` meets its contract. Assumes nothing.
+-- `text::copy` meets its contract. Assumes nothing.
 use mathlib.Core.Path.{_≡_, refl, ap, _∙_}
 use mathlib.Core.List.{List}
 use Prim.Native.Nat.{ℕ, _+_, _-_, _≤_}
@@ -6,9 +6,9 @@ use native.Mathlib.Omega.{arith}
 use native.Mathlib.Nat.{le-antisymm}
 use lib.ListN.{length, take, getD, set, length-set}
 use lib.Seq.{sets, take-all}
-use Rattle.rows.proofs.Laws.{copied-more}
-use Rattle.rows.proofs.put.put.Statement.{statement}
-use Rattle.rows.proofs.put.put.Tie as tie
+use Rattle.text.proofs.Laws.{copied-more}
+use Rattle.text.proofs.copy.Statement.{statement}
+use Rattle.text.proofs.copy.Tie as tie
 
 abbrev Inv-loop : tie.InvT-loop
 Inv-loop out₀ at src i₀ out i = (i ≤ length src) × (length out ≡ length out₀) × (out ≡ sets out₀ at (take i src))
@@ -59,8 +59,8 @@ returns c =
       holds = l .loop .inv .2 ∙ ap (λ (xs : List ℕ). sets (a .out .now) (a .at) xs) (take-all (l .loop .i) (a .src .now) (c .loop-test .left));
     }
 
-pub put-spec : {M : Type 1} → statement M
-put-spec =
+pub copy-spec : {M : Type 1} → statement M
+copy-spec =
     tie.close
     (tie.spec
     Inv-loop
