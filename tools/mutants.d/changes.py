@@ -214,6 +214,11 @@ def made(change):
 SPEC_NUMBER = re.compile(r"(?<![\w.])(\d+(?:_\d+)?)(?![\w.])")
 
 
+def digits(number):
+    """The digits of a decimal, wherever its point stands."""
+    return re.sub(r"\D", "", number).lstrip("0")
+
+
 def decimals(crate):
     """Each decimal that the crate's code and its definitions both print, with its last digit changed in both."""
     texts = trial.files(crate)
@@ -223,22 +228,22 @@ def decimals(crate):
             for i, line in enumerate(text.split("\n")):
                 for m in NUMBER.finditer(bare(line)):
                     if "." in m[0]:
-                        code.setdefault(m[0].partition("e")[0].replace(".", "_"), []).append((name, i, m[0]))
+                        code.setdefault(digits(m[0].partition("e")[0]), []).append((name, i, m[0]))
         elif name.startswith("specs/"):
             for i, line in enumerate(text.split("\n")):
                 for m in SPEC_NUMBER.finditer(line.partition("--")[0]):
                     if "_" in m[1]:
-                        spec.setdefault(m[1], []).append((name, i, m[1]))
+                        spec.setdefault(digits(m[1]), []).append((name, i, m[1]))
     found = []
-    for digits in sorted(code):
-        there = spec.get(digits, [])
-        if len(there) != len(code[digits]) or len(digits) < 4:
+    for key in sorted(code):
+        there = spec.get(key, [])
+        if len(there) != len(code[key]) or len(key) < 3:
             continue
-        last = int(digits[-1])
-        new = digits[:-1] + str(last + 1 if last < 9 else 8)
-        for (name, i, printed), (other, j, _) in zip(code[digits], there):
+        new = str(int(key[-1]) + 1 if key[-1] != "9" else 8)
+        for (name, i, printed), (other, j, told) in zip(code[key], there):
             pairs, shown = [], []
-            for file, row, old, text in ((name, i, printed, printed.replace(digits.replace("_", "."), new.replace("_", "."), 1)), (other, j, digits, new)):
+            mantissa, e, exponent = printed.partition("e")
+            for file, row, old, text in ((name, i, printed, mantissa[:-1] + new + e + exponent), (other, j, told, told[:-1] + new)):
                 lines = texts[file].split("\n")
                 start = sum(len(s) + 1 for s in lines[:row]) + lines[row].index(old)
                 pairs.append((crate, file, start, start + len(old), text))
