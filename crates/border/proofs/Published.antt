@@ -7,7 +7,7 @@ use Rattle.common.specs.Decimal.{scaled, decimal, whole, plus, minus}
 use Rattle.common.specs.Sum.{every}
 use Rattle.rules.specs.Units.{inUnits}
 use Rattle.rules.specs.Root.{rootRule, nearestRoot, wholeRoot}
-use Rattle.r4.proofs.Published.{Value, prints, agrees}
+use Rattle.common.proofs.Printed.{Value, prints, agrees}
 use Rattle.border.specs.Border.{B23-T2p, B23-p2T, B23-T2pRule, B23-p2TRule}
 
 pub values : List Value

@@ -5,5 +5,6 @@ pub mod Calls
 pub mod Arms
 pub mod Same
 pub mod Points
+pub mod Printed
 pub mod Unique
 pub mod Pin

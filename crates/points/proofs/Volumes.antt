@@ -18,7 +18,7 @@ use Rattle.tables_n_t.specs.Printed.{table3n, table3o, table3p, table3q, table3
 use Rattle.tables_u_z.specs.Printed.{table3u, table3v, table3w, table3x, table3y, table3z}
 use Rattle.subregion.specs.declared.Letter.{Letter}
 use Rattle.subregion.specs.declared.Letter.the-variants as letters
-use Rattle.r4.proofs.Published.{Value, prints, agrees}
+use Rattle.common.proofs.Printed.{Value, prints, agrees}
 use Rattle.volume.specs.Equation.{volumeAt, volumeBy}
 use Rattle.volume.specs.Volumes.{saturatedLetter}
 use Rattle.volume.specs.declared.Phase.the-variants.{Liquid, Steam}

@@ -1,4 +1,3 @@
-pub mod Printed
 pub mod Published
 pub mod Together
 pub mod Apart

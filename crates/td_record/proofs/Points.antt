@@ -21,7 +21,7 @@ use Rattle.record.specs.declared.Record.{Record}
 use Rattle.helmholtz.specs.Table30.{table30}
 use Rattle.helmholtz.specs.Hfe.{slope, share, phi-delta, joint-phi, joint-delta, four-delta, four-deltadelta}
 use Rattle.properties.specs.Td.{Td2v, Td2p, Td2h, Td2u, Td2s, Td2cv, Td2cp, Td2w, statePressure}
-use Rattle.properties.proofs.Printed.{printedAs}
+use Rattle.common.proofs.Printed.{printedAs}
 use Rattle.td_record.specs.Steps.{pressureFrom, recordAfter, recordSteps, recordRule}
 use Rattle.td_record.specs.declared.Pressure.the-variants.{Found}
 
