@@ -49,10 +49,13 @@ def pin_rows(rows):
     return h
 
 
-def pin_lines(rows):
+def pin_boundaries(rows):
+    """Rows of a boundary each: 1 for a sum in p and 2 for one in ln p, then the terms."""
     h = 0
-    for i, n in rows:
-        h = of_float(mix(h, [i + 2000]), n)
+    for in_ln, terms in rows:
+        h = mix(h, [1 + in_ln])
+        for i, n in terms:
+            h = of_float(mix(h, [i + 2000]), n)
     return h
 
 
@@ -93,9 +96,9 @@ def exponents(source, name):
 
 
 def boundary(source, name):
-    """The rows that are summed: from 1 to the loop's end."""
-    last = int(re.search(r"for i in 1\.\.=(\d+) \{\s*T \+= n" + name + r"\[i\]", source).group(1))
-    return list(zip(exponents(source, "I" + name), numbers(source, "n" + name)))[1 : last + 1]
+    """Whether the sum is in ln p, and the terms that are summed: from 1 to the loop's end."""
+    m = re.search(r"for i in 1\.\.=(\d+) \{\s*T \+= n" + name + r"\[i\] \* (p|p\.ln\(\))\.powi\(I" + name + r"\[i\]\)", source)
+    return m.group(2) != "p", list(zip(exponents(source, "I" + name), numbers(source, "n" + name)))[1 : int(m.group(1)) + 1]
 
 
 def wanted():
@@ -120,7 +123,7 @@ def wanted():
     first = float(re.search(r"const n1: f64 = ([-+0-9.eE]+);", hfe).group(1))
     out["helmholtz"] = [("table30", pin_rows(rows_of(hfe))), ("n1", pin_numbers([first]))]
     lines = text("r3/region3_v_pT.rs")
-    out["boundary"] = [("table" + b, pin_lines(boundary(lines, b))) for b in re.findall(r"const I(3[a-z]{2}):", lines)]
+    out["boundary"] = [("table", pin_boundaries(boundary(lines, b) for b in re.findall(r"const I(3[a-z]{2}):", lines)))]
     out["r4"] = [("table34", pin_numbers(numbers(text("r4/region4_sat_pT.rs"), "n")))]
     return out
 
@@ -141,10 +144,18 @@ use Rattle.algo.proofs.Pin.{pinRows}
 use Rattle.helmholtz.specs.Table30.{n1, table30}
 """,
     "boundary": """use Rattle.common.proofs.Pin.{mix, shifted, mixFloat, pinFrom}
-use Rattle.boundary.specs.Boundary.{Row, row, NAMES}
+use Rattle.boundary.specs.Boundary.{Term, term, Argument, inP, inLn, Row, row, NAMES}
 
+abbrev mixTerm : ℕ → Term → ℕ
+mixTerm h (term i n) = mixFloat (mix h (shifted i)) n
+
+abbrev numbered : Argument → ℕ
+numbered inP = 1
+numbered inLn = 2
+
+-- what the row's sum is in, and its terms
 abbrev mixRow : ℕ → Row → ℕ
-mixRow h (row i n) = mixFloat (mix h (shifted i)) n
+mixRow h (row a ts) = pinFrom mixTerm (mix h (numbered a)) ts
 
 abbrev pinRows : List Row → ℕ
 pinRows = pinFrom mixRow 0

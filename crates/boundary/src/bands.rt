@@ -1,6 +1,7 @@
 // The bands by p. Each works its boundaries out, tests once that none is lost, and hands them to its chooser.
-use crate::Boundary;
-use crate::boundaries::raw_boundary;
+use crate::boundaries::straight;
+use crate::boundaries::tabled;
+use crate::table;
 use border::check_region3;
 use choosers::Near;
 use choosers::by_ab;
@@ -48,7 +49,7 @@ fn all_finite(ts: &[f64]) -> bool
 fn band_ab(p: f64, t: f64) -> LetterAnswer
     ensures { λ r. ⌜ paperLetter r ≡ abRule p t ⌝ }
 {
-    let tab = raw_boundary(Boundary::Ab, p);
+    let tab = tabled(table::AB, p);
     if all_finite(&[tab]) {
         return LetterAnswer::Value(by_ab(Kelvin(tab), Kelvin(t)));
     }
@@ -58,9 +59,9 @@ fn band_ab(p: f64, t: f64) -> LetterAnswer
 fn band_cdef(p: f64, t: f64) -> LetterAnswer
     ensures { λ r. ⌜ paperLetter r ≡ cdefRule p t ⌝ }
 {
-    let tab = raw_boundary(Boundary::Ab, p);
-    let tcd = raw_boundary(Boundary::Cd, p);
-    let tef = raw_boundary(Boundary::Ef, p);
+    let tab = tabled(table::AB, p);
+    let tcd = tabled(table::CD, p);
+    let tef = straight(p);
     if all_finite(&[tab, tcd, tef]) {
         return LetterAnswer::Value(by_cdef(Kelvin(tcd), Kelvin(tab), Kelvin(tef), Kelvin(t)));
     }
@@ -70,11 +71,11 @@ fn band_cdef(p: f64, t: f64) -> LetterAnswer
 fn band_chijk(second: Letter, p: f64, t: f64) -> LetterAnswer
     ensures { λ r. ⌜ paperLetter r ≡ chijkRule second p t ⌝ }
 {
-    let tcd = raw_boundary(Boundary::Cd, p);
-    let tef = raw_boundary(Boundary::Ef, p);
-    let tgh = raw_boundary(Boundary::Gh, p);
-    let tij = raw_boundary(Boundary::Ij, p);
-    let tjk = raw_boundary(Boundary::Jk, p);
+    let tcd = tabled(table::CD, p);
+    let tef = straight(p);
+    let tgh = tabled(table::GH, p);
+    let tij = tabled(table::IJ, p);
+    let tjk = tabled(table::JK, p);
     if all_finite(&[tcd, tef, tgh, tij, tjk]) {
         return LetterAnswer::Value(by_chijk(
             second,
@@ -92,13 +93,13 @@ fn band_chijk(second: Letter, p: f64, t: f64) -> LetterAnswer
 fn band_clmnopjk(p: f64, t: f64) -> LetterAnswer
     ensures { λ r. ⌜ paperLetter r ≡ clmnopjkRule p t ⌝ }
 {
-    let tcd = raw_boundary(Boundary::Cd, p);
-    let tef = raw_boundary(Boundary::Ef, p);
-    let tgh = raw_boundary(Boundary::Gh, p);
-    let tij = raw_boundary(Boundary::Ij, p);
-    let tjk = raw_boundary(Boundary::Jk, p);
-    let tmn = raw_boundary(Boundary::Mn, p);
-    let top = raw_boundary(Boundary::Op, p);
+    let tcd = tabled(table::CD, p);
+    let tef = straight(p);
+    let tgh = tabled(table::GH, p);
+    let tij = tabled(table::IJ, p);
+    let tjk = tabled(table::JK, p);
+    let tmn = tabled(table::MN, p);
+    let top = tabled(table::OP, p);
     if all_finite(&[tcd, tef, tgh, tij, tjk, tmn, top]) {
         return LetterAnswer::Value(by_clmnopjk(
             Kelvin(tcd),
@@ -117,8 +118,8 @@ fn band_clmnopjk(p: f64, t: f64) -> LetterAnswer
 fn band_csrk(p: f64, t: f64) -> LetterAnswer
     ensures { λ r. ⌜ paperLetter r ≡ csrkRule p t ⌝ }
 {
-    let tcd = raw_boundary(Boundary::Cd, p);
-    let tjk = raw_boundary(Boundary::Jk, p);
+    let tcd = tabled(table::CD, p);
+    let tjk = tabled(table::JK, p);
     let tsat = raw_T_saturation(MPa(p));
     if all_finite(&[tcd, tjk, tsat]) {
         return LetterAnswer::Value(by_csrk(Kelvin(tcd), Kelvin(tsat), Kelvin(tjk), Kelvin(t)));
@@ -129,7 +130,7 @@ fn band_csrk(p: f64, t: f64) -> LetterAnswer
 fn band_cst(p: f64, t: f64) -> LetterAnswer
     ensures { λ r. ⌜ paperLetter r ≡ cstRule p t ⌝ }
 {
-    let tcd = raw_boundary(Boundary::Cd, p);
+    let tcd = tabled(table::CD, p);
     let tsat = raw_T_saturation(MPa(p));
     if all_finite(&[tcd, tsat]) {
         return LetterAnswer::Value(by_cst(Kelvin(tcd), Kelvin(tsat), Kelvin(t)));
@@ -151,9 +152,9 @@ fn band_ct(p: f64, t: f64) -> LetterAnswer
 fn band_near(p: f64, t: f64) -> LetterAnswer
     ensures { λ r. ⌜ paperLetter r ≡ nearRule p t ⌝ }
 {
-    let tuv = raw_boundary(Boundary::Uv, p);
-    let twx = raw_boundary(Boundary::Wx, p);
-    let tef = raw_boundary(Boundary::Ef, p);
+    let tuv = tabled(table::UV, p);
+    let twx = tabled(table::WX, p);
+    let tef = straight(p);
     if all_finite(&[tuv, twx, tef]) {
         if p > 22.11 {
             return LetterAnswer::Value(by_uvwx(Kelvin(tuv), Kelvin(tef), Kelvin(twx), Kelvin(t)));
@@ -179,10 +180,10 @@ fn band_near(p: f64, t: f64) -> LetterAnswer
 fn band_cq_rk(p: f64, t: f64) -> LetterAnswer
     ensures { λ r. ⌜ paperLetter r ≡ cq-rkRule p t ⌝ }
 {
-    let tcd = raw_boundary(Boundary::Cd, p);
-    let tqu = raw_boundary(Boundary::Qu, p);
-    let trx = raw_boundary(Boundary::Rx, p);
-    let tjk = raw_boundary(Boundary::Jk, p);
+    let tcd = tabled(table::CD, p);
+    let tqu = tabled(table::QU, p);
+    let trx = tabled(table::RX, p);
+    let tjk = tabled(table::JK, p);
     if all_finite(&[tcd, tqu, trx, tjk]) {
         match round_critical(
             Kelvin(tcd),

@@ -16,7 +16,7 @@ use Rattle.rules.specs.Log.{logarithmRule, L as ln2}
 use Rattle.rules.specs.Exp.{exponentialRule}
 use Rattle.border.specs.Border.{region3Box, besideBorder, B23-p2T}
 use Rattle.r4.specs.Saturation.{p-saturation, T-saturation}
-use Rattle.boundary.specs.Boundary.{boundaryRule, formRule, straight3ef, table3ab, table3cd, table3gh, table3ij, table3jk}
+use Rattle.boundary.specs.Boundary.{boundaryRule, walkRule, rowAt, table, straight3ef}
 use Rattle.boundary.specs.Choice.{letterRule, letterAt, limit, abRule, cdefRule, chijkRule, ctRule}
 use Rattle.boundary.specs.declared.Boundary.the-variants.{Ef}
 
@@ -86,5 +86,5 @@ points =
     ∷ []
 
 pub points-hold : map got points ≡ map wanted points
-unfolding got wanted points letterRule region3Box besideBorder B23-p2T letterAt limit p-saturation T-saturation abRule cdefRule chijkRule ctRule boundaryRule formRule straight3ef total table3ab table3cd table3gh table3ij table3jk powerRule rootRule nearestRoot wholeRoot logarithmRule ln2 exponentialRule inUnits decimal whole plus minus scaled round neg add sub sum mul div ofInt le lt eq
+unfolding got wanted points letterRule region3Box besideBorder B23-p2T letterAt limit p-saturation T-saturation abRule cdefRule chijkRule ctRule boundaryRule walkRule rowAt table straight3ef total powerRule rootRule nearestRoot wholeRoot logarithmRule ln2 exponentialRule inUnits decimal whole plus minus scaled round neg add sub sum mul div ofInt le lt eq
 points-hold = refl

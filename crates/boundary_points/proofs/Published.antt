@@ -9,7 +9,7 @@ use Rattle.rules.specs.Units.{inUnits}
 use Rattle.rules.specs.Power.{powerRule}
 use Rattle.rules.specs.Log.{logarithmRule, L}
 use Rattle.common.proofs.Printed.{Value, prints, agrees}
-use Rattle.boundary.specs.Boundary.{boundaryRule, formRule, straight3ef, table3ab, table3cd, table3gh, table3ij, table3jk, table3mn, table3op, table3qu, table3rx, table3uv, table3wx}
+use Rattle.boundary.specs.Boundary.{boundaryRule, walkRule, rowAt, table, straight3ef}
 use Rattle.boundary.specs.declared.Boundary.the-variants.{Ab, Cd, Ef, Gh, Ij, Jk, Mn, Op, Qu, Rx, Uv, Wx}
 
 pub values : List Value
@@ -29,5 +29,5 @@ values =
     ∷ []
 
 pub values-agree : every agrees values ≡ true
-unfolding values every boundaryRule formRule straight3ef total table3ab table3cd table3gh table3ij table3jk table3mn table3op table3qu table3rx table3uv table3wx powerRule logarithmRule L inUnits scaled decimal whole plus minus round neg add sub sum mul div ofInt le
+unfolding values every boundaryRule walkRule rowAt table straight3ef total powerRule logarithmRule L inUnits scaled decimal whole plus minus round neg add sub sum mul div ofInt le
 values-agree = refl

@@ -21,7 +21,8 @@ use Rattle.rounding.proofs.Errors.{times}
 use Rattle.rounding.proofs.Bound.{Ex, con, var, sum, product, float, exact, Same}
 use Rattle.rounding.proofs.Powers.{power-ex, power-float, power-exact, sum-ex, sum-float, sum-same}
 use Rattle.boundary.specs.Boundary as f64
-use Rattle.boundary.specs.Boundary.{inP, formOf, rawTerm, formRule, straight3ef}
+use Rattle.boundary.specs.Boundary.{inP, boundaryOf, walkRule, rowAt, table, straight3ef}
+use Rattle.boundary.specs.Raw.{rawTerm}
 use Rattle.boundary.proofs.TableSums.{small, sum-check}
 use Rattle.distance.specs.Exact.{Row, Form, tabled, straight, form, valueOf, Polynomial, cd, ef, gh, ij, jk, mn, qu, rx, uv, Q, lifted, gain, loss, polynomial, line}
 use Rattle.distance.specs.Distance.{kind}
@@ -40,9 +41,9 @@ unfoldable row-ex : Row → Ex
 unfolding coefficient power-ex
 row-ex r = product (con (coefficient r) (printed r)) (power-ex var (r .power))
 
--- the row of the f64 table
-abbrev pub rounded : Row → f64.Row
-rounded r = f64.row (pos (r .power)) (coefficient r)
+-- the term of the f64 table
+abbrev pub rounded : Row → f64.Term
+rounded r = f64.term (pos (r .power)) (coefficient r)
 
 row-float : (x : Float) (r : Row) → float binary64 x (row-ex r) ≡ rawTerm x (rounded r)
 unfolding row-ex float
@@ -117,8 +118,8 @@ ex (tabled rows) = rows-ex rows
 ex straight = ef-ex
 
 -- ---- the same floats
-rows-check : (p : Float) → finite p ≡ true → (rows : List Row) → T (every small (map rounded rows)) → formRule (inP (map rounded rows)) p ≡ check (float binary64 p (rows-ex rows))
-unfolding rows-ex formRule
+rows-check : (p : Float) → finite p ≡ true → (rows : List Row) → T (every small (map rounded rows)) → walkRule (f64.row inP (map rounded rows)) p ≡ check (float binary64 p (rows-ex rows))
+unfolding rows-ex walkRule
 rows-check p f rows t =
     sum-check p f (map rounded rows) t
     ∙ ap check (sym (sum-float row-ex (rawTerm p) rounded p (row-float p) zero-ex rows ∙ start))
@@ -126,8 +127,8 @@ rows-check p f rows t =
     start : rawTotal (rawTerm p) (float binary64 p zero-ex) (map rounded rows) ≡ rawTotal (rawTerm p) zeroF (map rounded rows)
     start = unfold float in refl
 
-ef-check : (p : Float) → formRule f64.straight p ≡ check (float binary64 p ef-ex)
-unfolding formRule straight3ef ef-ex float sub
+ef-check : (p : Float) → straight3ef p ≡ check (float binary64 p ef-ex)
+unfolding straight3ef ef-ex float sub
 ef-check p =
     let k = decimal 3_727888004 9 in
     let t = decimal 647_096 3 in
@@ -135,29 +136,29 @@ ef-check p =
     ap (λ (o : Outcome Float). then o (λ w. check (add binary64 w t))) (step d (λ y. check (mul binary64 k y)) (mul binary64 k) (λ _. refl) (mul-right k d))
     ∙ step (mul binary64 k d) (λ w. check (add binary64 w t)) (λ w. add binary64 w t) (λ _. refl) (add-left (mul binary64 k d) t)
 
--- the f64 form of a boundary: the printed decimals, rounded
-abbrev pub inFloats : Form → f64.Form
-inFloats (tabled rows) = inP (map rounded rows)
-inFloats straight = f64.straight
+-- the f64 rule of a boundary: the printed decimals, rounded
+abbrev pub inFloats : Form → Float → Outcome Float
+inFloats (tabled rows) p = walkRule (f64.row inP (map rounded rows)) p
+inFloats straight p = straight3ef p
 
-pub written : (b : Polynomial) → formOf (kind b) ≡ inFloats (form b)
-unfolding form coefficient f64.table3cd f64.table3gh f64.table3ij f64.table3jk f64.table3mn f64.table3qu f64.table3rx f64.table3uv
-written cd = refl
-written ef = refl
-written gh = refl
-written ij = refl
-written jk = refl
-written mn = refl
-written qu = refl
-written rx = refl
-written uv = refl
+pub written : (b : Polynomial) (p : Float) → boundaryOf (kind b) p ≡ inFloats (form b) p
+unfolding form coefficient rowAt table
+written cd p = refl
+written ef p = refl
+written gh p = refl
+written ij p = refl
+written jk p = refl
+written mn p = refl
+written qu p = refl
+written rx p = refl
+written uv p = refl
 
 -- the power rule takes each power
 abbrev pub taken : Form → Bool
 taken (tabled rows) = every small (map rounded rows)
 taken straight = true
 
-pub form-check : (g : Form) (p : Float) → finite p ≡ true → T (taken g) → formRule (inFloats g) p ≡ check (float binary64 p (ex g))
+pub form-check : (g : Form) (p : Float) → finite p ≡ true → T (taken g) → inFloats g p ≡ check (float binary64 p (ex g))
 form-check (tabled rows) p f t = rows-check p f rows t
 form-check straight p f t = ef-check p
 

@@ -22,7 +22,7 @@ use Rattle.tables_n_t.specs.Printed.{table3n, table3o, table3p, table3q, table3
 use Rattle.tables_u_z.specs.Printed.{table3u, table3v, table3w, table3x, table3y, table3z}
 use Rattle.r4.specs.Saturation.{p-saturation, T-saturation}
 use Rattle.border.specs.Border.{B23-p2T, besideBorder, region3Box}
-use Rattle.boundary.specs.Boundary.{formRule, straight3ef, table3ab, table3cd, table3gh, table3ij, table3jk, table3mn, table3op, table3qu, table3rx, table3uv, table3wx}
+use Rattle.boundary.specs.Boundary.{walkRule, rowAt, table, straight3ef}
 use Rattle.boundary.specs.Choice.{letterAt, abRule, cdefRule, chijkRule, clmnopjkRule, nearRule, cq-rkRule, csrkRule, cstRule, ctRule, limit}
 use Rattle.volume.specs.Equation.{volumeAt, volumeBy}
 use Rattle.volume.specs.Volumes.{originAt, originRule, stateBy, foundRule}
@@ -51,15 +51,15 @@ every-number (x ∷ xs) [] = false
 every-number (x ∷ xs) (y ∷ ys) = same x y && every-number xs ys
 
 pub letters : every-byte (filled ps ts .letters) (103 ∷ 0 ∷ 0 ∷ 97 ∷ 0 ∷ []) ≡ true
-unfolding every-byte ps ts rowsBy rowRule foundRule originRule region3Box besideBorder B23-p2T originAt stateBy volumeAt volumeBy letterAt abRule cdefRule chijkRule clmnopjkRule nearRule cq-rkRule csrkRule cstRule ctRule limit formRule straight3ef table3ab table3cd table3gh table3ij table3jk table3mn table3op table3qu table3rx table3uv table3wx p-saturation T-saturation sumRule total table3a table3b table3c table3d table3e table3f table3g table3h table3i table3j table3k table3l table3m table3n table3o table3p table3q table3r table3s table3t table3u table3v table3w table3x table3y table3z powerRule byBits lowest rootRule nearestRoot wholeRoot inUnits logarithmRule lnOf lnSteps exponentialRule expSteps nearestWhole L scaled decimal whole plus minus round neg add sub sum mul div ofInt le lt
+unfolding every-byte ps ts rowsBy rowRule foundRule originRule region3Box besideBorder B23-p2T originAt stateBy volumeAt volumeBy letterAt abRule cdefRule chijkRule clmnopjkRule nearRule cq-rkRule csrkRule cstRule ctRule limit walkRule rowAt table straight3ef p-saturation T-saturation sumRule total table3a table3b table3c table3d table3e table3f table3g table3h table3i table3j table3k table3l table3m table3n table3o table3p table3q table3r table3s table3t table3u table3v table3w table3x table3y table3z powerRule byBits lowest rootRule nearestRoot wholeRoot inUnits logarithmRule lnOf lnSteps exponentialRule expSteps nearestWhole L scaled decimal whole plus minus round neg add sub sum mul div ofInt le lt
 letters = refl
 
 pub densities : every-number (filled ps ts .densities) ((decimal 461_6711044147961 13) ∷ (whole 322) ∷ zeroF ∷ (decimal 679_8775485632074 13) ∷ zeroF ∷ []) ≡ true
-unfolding every-number ps ts rowsBy rowRule foundRule originRule region3Box besideBorder B23-p2T originAt stateBy volumeAt volumeBy letterAt abRule cdefRule chijkRule clmnopjkRule nearRule cq-rkRule csrkRule cstRule ctRule limit formRule straight3ef table3ab table3cd table3gh table3ij table3jk table3mn table3op table3qu table3rx table3uv table3wx p-saturation T-saturation sumRule total table3a table3b table3c table3d table3e table3f table3g table3h table3i table3j table3k table3l table3m table3n table3o table3p table3q table3r table3s table3t table3u table3v table3w table3x table3y table3z powerRule byBits lowest rootRule nearestRoot wholeRoot inUnits logarithmRule lnOf lnSteps exponentialRule expSteps nearestWhole L scaled decimal whole plus minus round neg add sub sum mul div ofInt le lt
+unfolding every-number ps ts rowsBy rowRule foundRule originRule region3Box besideBorder B23-p2T originAt stateBy volumeAt volumeBy letterAt abRule cdefRule chijkRule clmnopjkRule nearRule cq-rkRule csrkRule cstRule ctRule limit walkRule rowAt table straight3ef p-saturation T-saturation sumRule total table3a table3b table3c table3d table3e table3f table3g table3h table3i table3j table3k table3l table3m table3n table3o table3p table3q table3r table3s table3t table3u table3v table3w table3x table3y table3z powerRule byBits lowest rootRule nearestRoot wholeRoot inUnits logarithmRule lnOf lnSteps exponentialRule expSteps nearestWhole L scaled decimal whole plus minus round neg add sub sum mul div ofInt le lt
 densities = refl
 
 pub refusals : every-byte (filled ps ts .refusals) (0 ∷ 0 ∷ 3 ∷ 0 ∷ 8 ∷ []) ≡ true
-unfolding every-byte ps ts rowsBy rowRule foundRule originRule region3Box besideBorder B23-p2T originAt stateBy volumeAt volumeBy letterAt abRule cdefRule chijkRule clmnopjkRule nearRule cq-rkRule csrkRule cstRule ctRule limit formRule straight3ef table3ab table3cd table3gh table3ij table3jk table3mn table3op table3qu table3rx table3uv table3wx p-saturation T-saturation sumRule total table3a table3b table3c table3d table3e table3f table3g table3h table3i table3j table3k table3l table3m table3n table3o table3p table3q table3r table3s table3t table3u table3v table3w table3x table3y table3z powerRule byBits lowest rootRule nearestRoot wholeRoot inUnits logarithmRule lnOf lnSteps exponentialRule expSteps nearestWhole L scaled decimal whole plus minus round neg add sub sum mul div ofInt le lt
+unfolding every-byte ps ts rowsBy rowRule foundRule originRule region3Box besideBorder B23-p2T originAt stateBy volumeAt volumeBy letterAt abRule cdefRule chijkRule clmnopjkRule nearRule cq-rkRule csrkRule cstRule ctRule limit walkRule rowAt table straight3ef p-saturation T-saturation sumRule total table3a table3b table3c table3d table3e table3f table3g table3h table3i table3j table3k table3l table3m table3n table3o table3p table3q table3r table3s table3t table3u table3v table3w table3x table3y table3z powerRule byBits lowest rootRule nearestRoot wholeRoot inUnits logarithmRule lnOf lnSteps exponentialRule expSteps nearestWhole L scaled decimal whole plus minus round neg add sub sum mul div ofInt le lt
 refusals = refl
 
 pub accepted : columnsRule ps ts (lent (9 ∷ 9 ∷ 9 ∷ 9 ∷ 9 ∷ []) ps (9 ∷ 9 ∷ 9 ∷ 9 ∷ 9 ∷ [])) ≡ (value tt, filled ps ts)

@@ -22,7 +22,7 @@ use Rattle.tables_n_t.specs.Printed.{table3n, table3o, table3p, table3q, table3
 use Rattle.tables_u_z.specs.Printed.{table3u, table3v, table3w, table3x, table3y, table3z}
 use Rattle.r4.specs.Saturation.{p-saturation, T-saturation}
 use Rattle.border.specs.Border.{B23-p2T, besideBorder, region3Box}
-use Rattle.boundary.specs.Boundary.{formRule, straight3ef, table3ab, table3cd, table3gh, table3ij, table3jk, table3mn, table3op, table3qu, table3rx, table3uv, table3wx}
+use Rattle.boundary.specs.Boundary.{walkRule, rowAt, table, straight3ef}
 use Rattle.boundary.specs.Choice.{letterAt, abRule, cdefRule, chijkRule, clmnopjkRule, nearRule, cq-rkRule, csrkRule, cstRule, ctRule, limit}
 use Rattle.volume.specs.Equation.{volumeAt, volumeBy}
 use Rattle.volume.specs.Volumes.{originAt, originRule, stateBy, foundRule}
@@ -54,11 +54,11 @@ state : Outcome Unit × Record
 state = report (pTRule (ofBits binary64 0x4038_0000_0000_0000) (ofBits binary64 0x4084_5000_0000_0000))
 
 accepted : numberIn (state .0) ≡ 0
-unfolding state pTRule recordSteps recordAfter Td2v Td2p Td2h Td2s Td2u Td2cv Td2cp Td2w statePressure slope phi phi-delta phi-deltadelta share joint-phi joint-delta four-delta four-deltadelta shareRule table30 sumRule total foundRule originRule region3Box besideBorder B23-p2T originAt stateBy volumeAt volumeBy letterAt abRule cdefRule chijkRule clmnopjkRule nearRule cq-rkRule csrkRule cstRule ctRule limit formRule straight3ef table3ab table3cd table3gh table3ij table3jk table3mn table3op table3qu table3rx table3uv table3wx p-saturation T-saturation table3a table3b table3c table3d table3e table3f table3g table3h table3i table3j table3k table3l table3m table3n table3o table3p table3q table3r table3s table3t table3u table3v table3w table3x table3y table3z powerRule byBits lowest rootRule nearestRoot wholeRoot inUnits logarithmRule lnOf lnSteps exponentialRule expSteps nearestWhole L scaled decimal whole plus minus round neg add sub sum mul div ofInt le lt ofBits
+unfolding state pTRule recordSteps recordAfter Td2v Td2p Td2h Td2s Td2u Td2cv Td2cp Td2w statePressure slope phi phi-delta phi-deltadelta share joint-phi joint-delta four-delta four-deltadelta shareRule table30 sumRule total foundRule originRule region3Box besideBorder B23-p2T originAt stateBy volumeAt volumeBy letterAt abRule cdefRule chijkRule clmnopjkRule nearRule cq-rkRule csrkRule cstRule ctRule limit walkRule rowAt table straight3ef p-saturation T-saturation table3a table3b table3c table3d table3e table3f table3g table3h table3i table3j table3k table3l table3m table3n table3o table3p table3q table3r table3s table3t table3u table3v table3w table3x table3y table3z powerRule byBits lowest rootRule nearestRoot wholeRoot inUnits logarithmRule lnOf lnSteps exponentialRule expSteps nearestWhole L scaled decimal whole plus minus round neg add sub sum mul div ofInt le lt ofBits
 accepted = refl
 
 density : same (state .1 .d) (decimal 461_6711044147961 13) ≡ true
-unfolding state pTRule recordSteps recordAfter Td2v Td2p Td2h Td2s Td2u Td2cv Td2cp Td2w statePressure slope phi phi-delta phi-deltadelta share joint-phi joint-delta four-delta four-deltadelta shareRule table30 sumRule total foundRule originRule region3Box besideBorder B23-p2T originAt stateBy volumeAt volumeBy letterAt abRule cdefRule chijkRule clmnopjkRule nearRule cq-rkRule csrkRule cstRule ctRule limit formRule straight3ef table3ab table3cd table3gh table3ij table3jk table3mn table3op table3qu table3rx table3uv table3wx p-saturation T-saturation table3a table3b table3c table3d table3e table3f table3g table3h table3i table3j table3k table3l table3m table3n table3o table3p table3q table3r table3s table3t table3u table3v table3w table3x table3y table3z powerRule byBits lowest rootRule nearestRoot wholeRoot inUnits logarithmRule lnOf lnSteps exponentialRule expSteps nearestWhole L scaled decimal whole plus minus round neg add sub sum mul div ofInt le lt ofBits
+unfolding state pTRule recordSteps recordAfter Td2v Td2p Td2h Td2s Td2u Td2cv Td2cp Td2w statePressure slope phi phi-delta phi-deltadelta share joint-phi joint-delta four-delta four-deltadelta shareRule table30 sumRule total foundRule originRule region3Box besideBorder B23-p2T originAt stateBy volumeAt volumeBy letterAt abRule cdefRule chijkRule clmnopjkRule nearRule cq-rkRule csrkRule cstRule ctRule limit walkRule rowAt table straight3ef p-saturation T-saturation table3a table3b table3c table3d table3e table3f table3g table3h table3i table3j table3k table3l table3m table3n table3o table3p table3q table3r table3s table3t table3u table3v table3w table3x table3y table3z powerRule byBits lowest rootRule nearestRoot wholeRoot inUnits logarithmRule lnOf lnSteps exponentialRule expSteps nearestWhole L scaled decimal whole plus minus round neg add sub sum mul div ofInt le lt ofBits
 density = refl
 
 at-24-650 : (s : List ℕ) → Means s (value (record { pair = PT; a = 0x4038_0000_0000_0000; b = 0x4084_5000_0000_0000 }))
@@ -74,7 +74,7 @@ at-24-650 s m =
     }
 
 at-NaN : (s : List ℕ) → Means s (value (record { pair = PT; a = 0x7ff8_0000_0000_0000; b = 0x4084_5000_0000_0000 })) → Answered s (value PT) 1 zeroF
-unfolding pTRule recordSteps recordAfter Td2v Td2p Td2h Td2s Td2u Td2cv Td2cp Td2w statePressure slope phi phi-delta phi-deltadelta share joint-phi joint-delta four-delta four-deltadelta shareRule table30 sumRule total foundRule originRule region3Box besideBorder B23-p2T originAt stateBy volumeAt volumeBy letterAt abRule cdefRule chijkRule clmnopjkRule nearRule cq-rkRule csrkRule cstRule ctRule limit formRule straight3ef table3ab table3cd table3gh table3ij table3jk table3mn table3op table3qu table3rx table3uv table3wx p-saturation T-saturation table3a table3b table3c table3d table3e table3f table3g table3h table3i table3j table3k table3l table3m table3n table3o table3p table3q table3r table3s table3t table3u table3v table3w table3x table3y table3z powerRule byBits lowest rootRule nearestRoot wholeRoot inUnits logarithmRule lnOf lnSteps exponentialRule expSteps nearestWhole L scaled decimal whole plus minus round neg add sub sum mul div ofInt le lt ofBits
+unfolding pTRule recordSteps recordAfter Td2v Td2p Td2h Td2s Td2u Td2cv Td2cp Td2w statePressure slope phi phi-delta phi-deltadelta share joint-phi joint-delta four-delta four-deltadelta shareRule table30 sumRule total foundRule originRule region3Box besideBorder B23-p2T originAt stateBy volumeAt volumeBy letterAt abRule cdefRule chijkRule clmnopjkRule nearRule cq-rkRule csrkRule cstRule ctRule limit walkRule rowAt table straight3ef p-saturation T-saturation table3a table3b table3c table3d table3e table3f table3g table3h table3i table3j table3k table3l table3m table3n table3o table3p table3q table3r table3s table3t table3u table3v table3w table3x table3y table3z powerRule byBits lowest rootRule nearestRoot wholeRoot inUnits logarithmRule lnOf lnSteps exponentialRule expSteps nearestWhole L scaled decimal whole plus minus round neg add sub sum mul div ofInt le lt ofBits
 at-NaN s m =
     record {
       answer = (value PT, (refused 1, report (refused 1) .1));
@@ -85,7 +85,7 @@ at-NaN s m =
     }
 
 at-18-640 : (s : List ℕ) → Means s (value (record { pair = PT; a = 0x4032_0000_0000_0000; b = 0x4084_0000_0000_0000 })) → Answered s (value PT) 8 zeroF
-unfolding pTRule recordSteps recordAfter Td2v Td2p Td2h Td2s Td2u Td2cv Td2cp Td2w statePressure slope phi phi-delta phi-deltadelta share joint-phi joint-delta four-delta four-deltadelta shareRule table30 sumRule total foundRule originRule region3Box besideBorder B23-p2T originAt stateBy volumeAt volumeBy letterAt abRule cdefRule chijkRule clmnopjkRule nearRule cq-rkRule csrkRule cstRule ctRule limit formRule straight3ef table3ab table3cd table3gh table3ij table3jk table3mn table3op table3qu table3rx table3uv table3wx p-saturation T-saturation table3a table3b table3c table3d table3e table3f table3g table3h table3i table3j table3k table3l table3m table3n table3o table3p table3q table3r table3s table3t table3u table3v table3w table3x table3y table3z powerRule byBits lowest rootRule nearestRoot wholeRoot inUnits logarithmRule lnOf lnSteps exponentialRule expSteps nearestWhole L scaled decimal whole plus minus round neg add sub sum mul div ofInt le lt ofBits
+unfolding pTRule recordSteps recordAfter Td2v Td2p Td2h Td2s Td2u Td2cv Td2cp Td2w statePressure slope phi phi-delta phi-deltadelta share joint-phi joint-delta four-delta four-deltadelta shareRule table30 sumRule total foundRule originRule region3Box besideBorder B23-p2T originAt stateBy volumeAt volumeBy letterAt abRule cdefRule chijkRule clmnopjkRule nearRule cq-rkRule csrkRule cstRule ctRule limit walkRule rowAt table straight3ef p-saturation T-saturation table3a table3b table3c table3d table3e table3f table3g table3h table3i table3j table3k table3l table3m table3n table3o table3p table3q table3r table3s table3t table3u table3v table3w table3x table3y table3z powerRule byBits lowest rootRule nearestRoot wholeRoot inUnits logarithmRule lnOf lnSteps exponentialRule expSteps nearestWhole L scaled decimal whole plus minus round neg add sub sum mul div ofInt le lt ofBits
 at-18-640 s m =
     record {
       answer = (value PT, (refused 8, report (refused 8) .1));

@@ -22,7 +22,7 @@ use Rattle.tables_n_t.specs.Printed.{table3n, table3o, table3p, table3q, table3
 use Rattle.tables_u_z.specs.Printed.{table3u, table3v, table3w, table3x, table3y, table3z}
 use Rattle.r4.specs.Saturation.{p-saturation, T-saturation}
 use Rattle.border.specs.Border.{B23-T2p, B23-T2pRule, B23-p2T, besideBorder, region3Box}
-use Rattle.boundary.specs.Boundary.{formRule, straight3ef, table3ab, table3cd, table3gh, table3ij, table3jk, table3mn, table3op, table3qu, table3rx, table3uv, table3wx}
+use Rattle.boundary.specs.Boundary.{walkRule, rowAt, table, straight3ef}
 use Rattle.boundary.specs.Choice.{letterAt, abRule, cdefRule, chijkRule, clmnopjkRule, nearRule, cq-rkRule, csrkRule, cstRule, ctRule, limit}
 use Rattle.volume.specs.Equation.{volumeAt, volumeBy}
 use Rattle.volume.specs.Volumes.{State, originAt, originRule, stateBy, stateAt, foundRule, pT2v-reg3Rule}
@@ -47,7 +47,7 @@ unfolding every-number recordRule recordSteps recordAfter Td2v Td2p Td2h Td2s Td
 Td-accepted = refl
 
 pub pT-accepted : isRecord ((whole 650) ∷ (decimal 461_6711044147961 13) ∷ (decimal 0_002166044160956483 18) ∷ (decimal 24_000022504213025 15) ∷ (decimal 1908_7655208396018 13) ∷ (decimal 4_12906453174752 14) ∷ (decimal 1856_780412231524 12) ∷ (decimal 3_3965240849754745 16) ∷ (decimal 22_63103343987699 14) ∷ (decimal 428_4877479962741 13) ∷ []) (pTRule (whole 24) (whole 650)) ≡ true
-unfolding every-number pTRule recordSteps recordAfter Td2v Td2p Td2h Td2s Td2u Td2cv Td2cp Td2w statePressure slope phi phi-delta phi-deltadelta share joint-phi joint-delta four-delta four-deltadelta shareRule table30 sumRule total foundRule originRule region3Box besideBorder B23-p2T originAt stateBy volumeAt volumeBy letterAt abRule cdefRule chijkRule clmnopjkRule nearRule cq-rkRule csrkRule cstRule ctRule limit formRule straight3ef table3ab table3cd table3gh table3ij table3jk table3mn table3op table3qu table3rx table3uv table3wx p-saturation T-saturation table3a table3b table3c table3d table3e table3f table3g table3h table3i table3j table3k table3l table3m table3n table3o table3p table3q table3r table3s table3t table3u table3v table3w table3x table3y table3z powerRule byBits lowest rootRule nearestRoot wholeRoot inUnits logarithmRule lnOf lnSteps exponentialRule expSteps nearestWhole L scaled decimal whole plus minus round neg add sub sum mul div ofInt le lt
+unfolding every-number pTRule recordSteps recordAfter Td2v Td2p Td2h Td2s Td2u Td2cv Td2cp Td2w statePressure slope phi phi-delta phi-deltadelta share joint-phi joint-delta four-delta four-deltadelta shareRule table30 sumRule total foundRule originRule region3Box besideBorder B23-p2T originAt stateBy volumeAt volumeBy letterAt abRule cdefRule chijkRule clmnopjkRule nearRule cq-rkRule csrkRule cstRule ctRule limit walkRule rowAt table straight3ef p-saturation T-saturation table3a table3b table3c table3d table3e table3f table3g table3h table3i table3j table3k table3l table3m table3n table3o table3p table3q table3r table3s table3t table3u table3v table3w table3x table3y table3z powerRule byBits lowest rootRule nearestRoot wholeRoot inUnits logarithmRule lnOf lnSteps exponentialRule expSteps nearestWhole L scaled decimal whole plus minus round neg add sub sum mul div ofInt le lt
 pT-accepted = refl
 
 pub ph-accepted : isRecord ((decimal 657_20567344299 11) ∷ (decimal 348_74288507328674 14) ∷ (decimal 0_002867442011870305 18) ∷ (decimal 24_9995801104009 13) ∷ (decimal 2095_0002903069153 13) ∷ (decimal 4_410044864749924 15) ∷ (decimal 2023_3154440192366 13) ∷ (decimal 3_879843543752549 15) ∷ (decimal 65_30718312360705 14) ∷ (decimal 359_381435511441 12) ∷ []) (phRule (whole 25) (whole 2095)) ≡ true
@@ -69,12 +69,12 @@ unfolding recordRule scaled decimal whole plus minus round neg add sub sum mul d
 Td-refused = refl
 
 pub pT-beyond : pTRule (whole 17) (whole 800) ≡ refused 8
-unfolding pTRule foundRule originRule region3Box besideBorder B23-p2T originAt stateBy volumeAt volumeBy letterAt abRule cdefRule chijkRule clmnopjkRule nearRule cq-rkRule csrkRule cstRule ctRule limit formRule straight3ef table3ab table3cd table3gh table3ij table3jk table3mn table3op table3qu table3rx table3uv table3wx p-saturation T-saturation sumRule total table3a table3b table3c table3d table3e table3f table3g table3h table3i table3j table3k table3l table3m table3n table3o table3p table3q table3r table3s table3t table3u table3v table3w table3x table3y table3z powerRule byBits lowest rootRule nearestRoot wholeRoot inUnits logarithmRule lnOf lnSteps exponentialRule expSteps nearestWhole L scaled decimal whole plus minus round neg add sub sum mul div ofInt le lt
+unfolding pTRule foundRule originRule region3Box besideBorder B23-p2T originAt stateBy volumeAt volumeBy letterAt abRule cdefRule chijkRule clmnopjkRule nearRule cq-rkRule csrkRule cstRule ctRule limit walkRule rowAt table straight3ef p-saturation T-saturation sumRule total table3a table3b table3c table3d table3e table3f table3g table3h table3i table3j table3k table3l table3m table3n table3o table3p table3q table3r table3s table3t table3u table3v table3w table3x table3y table3z powerRule byBits lowest rootRule nearestRoot wholeRoot inUnits logarithmRule lnOf lnSteps exponentialRule expSteps nearestWhole L scaled decimal whole plus minus round neg add sub sum mul div ofInt le lt
 pT-beyond = refl
 
 -- the p of the found state is above 100
 pub pT-refused : pTRule (whole 100) (decimal 679_5125318168051 13) ≡ refused 4
-unfolding pTRule recordSteps recordAfter Td2v Td2p Td2h Td2s Td2u Td2cv Td2cp Td2w statePressure slope phi phi-delta phi-deltadelta share joint-phi joint-delta four-delta four-deltadelta shareRule table30 sumRule total foundRule originRule region3Box besideBorder B23-p2T originAt stateBy volumeAt volumeBy letterAt abRule cdefRule chijkRule clmnopjkRule nearRule cq-rkRule csrkRule cstRule ctRule limit formRule straight3ef table3ab table3cd table3gh table3ij table3jk table3mn table3op table3qu table3rx table3uv table3wx p-saturation T-saturation table3a table3b table3c table3d table3e table3f table3g table3h table3i table3j table3k table3l table3m table3n table3o table3p table3q table3r table3s table3t table3u table3v table3w table3x table3y table3z powerRule byBits lowest rootRule nearestRoot wholeRoot inUnits logarithmRule lnOf lnSteps exponentialRule expSteps nearestWhole L scaled decimal whole plus minus round neg add sub sum mul div ofInt le lt
+unfolding pTRule recordSteps recordAfter Td2v Td2p Td2h Td2s Td2u Td2cv Td2cp Td2w statePressure slope phi phi-delta phi-deltadelta share joint-phi joint-delta four-delta four-deltadelta shareRule table30 sumRule total foundRule originRule region3Box besideBorder B23-p2T originAt stateBy volumeAt volumeBy letterAt abRule cdefRule chijkRule clmnopjkRule nearRule cq-rkRule csrkRule cstRule ctRule limit walkRule rowAt table straight3ef p-saturation T-saturation table3a table3b table3c table3d table3e table3f table3g table3h table3i table3j table3k table3l table3m table3n table3o table3p table3q table3r table3s table3t table3u table3v table3w table3x table3y table3z powerRule byBits lowest rootRule nearestRoot wholeRoot inUnits logarithmRule lnOf lnSteps exponentialRule expSteps nearestWhole L scaled decimal whole plus minus round neg add sub sum mul div ofInt le lt
 pT-refused = refl
 
 abbrev isNumber : Float → Outcome Float → Bool
@@ -88,11 +88,11 @@ border-pressures = refl
 
 -- the volume alone is answered beyond the border
 pub volume-beyond : isNumber (decimal 0_00908693247290276 17) (pT2v-reg3Rule (whole 18) (whole 640)) ≡ true
-unfolding pT2v-reg3Rule stateAt originAt stateBy volumeAt volumeBy letterAt abRule cdefRule chijkRule clmnopjkRule nearRule cq-rkRule csrkRule cstRule ctRule limit formRule straight3ef table3ab table3cd table3gh table3ij table3jk table3mn table3op table3qu table3rx table3uv table3wx p-saturation T-saturation sumRule total table3a table3b table3c table3d table3e table3f table3g table3h table3i table3j table3k table3l table3m table3n table3o table3p table3q table3r table3s table3t table3u table3v table3w table3x table3y table3z powerRule byBits lowest rootRule nearestRoot wholeRoot inUnits logarithmRule lnOf lnSteps exponentialRule expSteps nearestWhole L scaled decimal whole plus minus round neg add sub sum mul div ofInt le lt
+unfolding pT2v-reg3Rule stateAt originAt stateBy volumeAt volumeBy letterAt abRule cdefRule chijkRule clmnopjkRule nearRule cq-rkRule csrkRule cstRule ctRule limit walkRule rowAt table straight3ef p-saturation T-saturation sumRule total table3a table3b table3c table3d table3e table3f table3g table3h table3i table3j table3k table3l table3m table3n table3o table3p table3q table3r table3s table3t table3u table3v table3w table3x table3y table3z powerRule byBits lowest rootRule nearestRoot wholeRoot inUnits logarithmRule lnOf lnSteps exponentialRule expSteps nearestWhole L scaled decimal whole plus minus round neg add sub sum mul div ofInt le lt
 volume-beyond = refl
 
 pub pT-outside : pTRule (whole 24) (whole 623) ≡ refused 3
-unfolding pTRule foundRule originRule region3Box besideBorder B23-p2T originAt stateBy volumeAt volumeBy letterAt abRule cdefRule chijkRule clmnopjkRule nearRule cq-rkRule csrkRule cstRule ctRule limit formRule straight3ef table3ab table3cd table3gh table3ij table3jk table3mn table3op table3qu table3rx table3uv table3wx p-saturation T-saturation sumRule total table3a table3b table3c table3d table3e table3f table3g table3h table3i table3j table3k table3l table3m table3n table3o table3p table3q table3r table3s table3t table3u table3v table3w table3x table3y table3z powerRule byBits lowest rootRule nearestRoot wholeRoot inUnits logarithmRule lnOf lnSteps exponentialRule expSteps nearestWhole L scaled decimal whole plus minus round neg add sub sum mul div ofInt le lt
+unfolding pTRule foundRule originRule region3Box besideBorder B23-p2T originAt stateBy volumeAt volumeBy letterAt abRule cdefRule chijkRule clmnopjkRule nearRule cq-rkRule csrkRule cstRule ctRule limit walkRule rowAt table straight3ef p-saturation T-saturation sumRule total table3a table3b table3c table3d table3e table3f table3g table3h table3i table3j table3k table3l table3m table3n table3o table3p table3q table3r table3s table3t table3u table3v table3w table3x table3y table3z powerRule byBits lowest rootRule nearestRoot wholeRoot inUnits logarithmRule lnOf lnSteps exponentialRule expSteps nearestWhole L scaled decimal whole plus minus round neg add sub sum mul div ofInt le lt
 pT-outside = refl
 
 pub ph-refused : phRule (whole 100) (whole 1500) ≡ refused 4
@@ -114,5 +114,5 @@ isState byte v d (value s) = eqb (byteOf (s .origin)) byte && (same (s .v) v && 
 isState byte v d (refused k) = false
 
 pub pT-critical : isState 0 (decimal 0_003105590062111801 18) (whole 322) (foundRule (decimal 22_064 3) (decimal 647_096 3)) ≡ true
-unfolding foundRule originRule region3Box besideBorder B23-p2T originAt stateBy volumeAt volumeBy letterAt abRule cdefRule chijkRule clmnopjkRule nearRule cq-rkRule csrkRule cstRule ctRule limit formRule straight3ef table3ab table3cd table3gh table3ij table3jk table3mn table3op table3qu table3rx table3uv table3wx p-saturation T-saturation sumRule total table3a table3b table3c table3d table3e table3f table3g table3h table3i table3j table3k table3l table3m table3n table3o table3p table3q table3r table3s table3t table3u table3v table3w table3x table3y table3z powerRule byBits lowest rootRule nearestRoot wholeRoot inUnits logarithmRule lnOf lnSteps exponentialRule expSteps nearestWhole L scaled decimal whole plus minus round neg add sub sum mul div ofInt le lt
+unfolding foundRule originRule region3Box besideBorder B23-p2T originAt stateBy volumeAt volumeBy letterAt abRule cdefRule chijkRule clmnopjkRule nearRule cq-rkRule csrkRule cstRule ctRule limit walkRule rowAt table straight3ef p-saturation T-saturation sumRule total table3a table3b table3c table3d table3e table3f table3g table3h table3i table3j table3k table3l table3m table3n table3o table3p table3q table3r table3s table3t table3u table3v table3w table3x table3y table3z powerRule byBits lowest rootRule nearestRoot wholeRoot inUnits logarithmRule lnOf lnSteps exponentialRule expSteps nearestWhole L scaled decimal whole plus minus round neg add sub sum mul div ofInt le lt
 pT-critical = refl

@@ -10,7 +10,7 @@ use Rattle.rules.specs.Power.{powerRule}
 use Rattle.rules.specs.Root.{rootRule, nearestRoot, wholeRoot}
 use Rattle.r4.specs.Saturation.{p-saturation}
 use Rattle.border.specs.Border.{B23-p2T, besideBorder, region3Box}
-use Rattle.boundary.specs.Boundary.{formRule, straight3ef, table3cd, table3gh, table3ij, table3jk}
+use Rattle.boundary.specs.Boundary.{walkRule, rowAt, table, straight3ef}
 use Rattle.boundary.specs.Choice.{letterRule, letterAt, limit, chijkRule}
 use Rattle.rows.specs.Lines.{lineOf, blockOf, lastLine, outputOf}
 use Rattle.buffer.specs.Bytes.{joined, floatAt}
@@ -24,5 +24,5 @@ bytes =
     ∷ 0 ∷ 0 ∷ 0 ∷ 0 ∷ 0 ∷ 64 ∷ 89 ∷ 64 ∷ 0 ∷ 0 ∷ 0 ∷ 0 ∷ 0 ∷ 80 ∷ 132 ∷ 64 ∷ []
 
 pub example : outputOf 0 bytes ≡ bytesOf "1 g 0\n2 i 0\n3 - 2\nrows 3 left 0\n"
-unfolding bytes joined floatAt digitsIn decimal lineOf blockOf lastLine outputOf letterRule region3Box besideBorder B23-p2T letterAt limit p-saturation chijkRule formRule straight3ef total table3cd table3gh table3ij table3jk powerRule rootRule nearestRoot wholeRoot inUnits printed whole plus minus scaled ofBits ofFields odd round neg add sub sum mul div ofInt le lt eq
+unfolding bytes joined floatAt digitsIn decimal lineOf blockOf lastLine outputOf letterRule region3Box besideBorder B23-p2T letterAt limit p-saturation chijkRule walkRule rowAt table straight3ef total powerRule rootRule nearestRoot wholeRoot inUnits printed whole plus minus scaled ofBits ofFields odd round neg add sub sum mul div ofInt le lt eq
 example = refl

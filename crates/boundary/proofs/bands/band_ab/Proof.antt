@@ -13,13 +13,13 @@ use Rattle.boundary.proofs.bands.band_ab.Tie as tie
 
 -- the band's letter, if none of its boundaries is lost
 whole : (c : tie.After-all-finite) →
-    let tab = c .before .before .raw-boundary .result in
+    let tab = c .before .before .tabled .result in
     let a = c .before .before .before .args in
     abRule (a .p) (a .t) ≡ cond (every finite (tab ∷ [])) (value (abBy tab (a .t))) (refused 5)
 unfolding abRule every
 whole c =
-    let tab = c .before .before .raw-boundary .result in
-    rw (← c .before .before .raw-boundary .ensures) (gate tab _ _ _ refl)
+    let tab = c .before .before .tabled .result in
+    rw (← c .before .before .tabled .ensures) (gate tab _ _ _ refl)
 
 returns : tie.Need-returns
 returns c = rw (c .by-ab .ensures, whole (c .before .before), ← c .before .before .all-finite .ensures, c .before .if1 .taken)

@@ -13,17 +13,17 @@ use Rattle.boundary.proofs.bands.band_cdef.Tie as tie
 
 -- the band's letter, if none of its boundaries is lost
 whole : (c : tie.After-all-finite) →
-    let tab = c .before .before .before .before .raw-boundary .result in
-    let tcd = c .before .before .before .raw-boundary2 .result in
-    let tef = c .before .before .raw-boundary3 .result in
+    let tab = c .before .before .before .before .tabled .result in
+    let tcd = c .before .before .before .tabled2 .result in
+    let tef = c .before .before .straight .result in
     let a = c .before .before .before .before .before .args in
     cdefRule (a .p) (a .t) ≡ cond (every finite (tab ∷ tcd ∷ tef ∷ [])) (value (cdefBy tcd tab tef (a .t))) (refused 5)
 unfolding cdefRule every
 whole c =
-    let tab = c .before .before .before .before .raw-boundary .result in
-    let tcd = c .before .before .before .raw-boundary2 .result in
-    let tef = c .before .before .raw-boundary3 .result in
-    rw (← c .before .before .before .before .raw-boundary .ensures, ← c .before .before .before .raw-boundary2 .ensures, ← c .before .before .raw-boundary3 .ensures) (gate tab _ _ _ (gate tcd _ _ _ (gate tef _ _ _ refl)))
+    let tab = c .before .before .before .before .tabled .result in
+    let tcd = c .before .before .before .tabled2 .result in
+    let tef = c .before .before .straight .result in
+    rw (← c .before .before .before .before .tabled .ensures, ← c .before .before .before .tabled2 .ensures, ← c .before .before .straight .ensures) (gate tab _ _ _ (gate tcd _ _ _ (gate tef _ _ _ refl)))
 
 returns : tie.Need-returns
 returns c = rw (c .by-cdef .ensures, whole (c .before .before), ← c .before .before .all-finite .ensures, c .before .if1 .taken)

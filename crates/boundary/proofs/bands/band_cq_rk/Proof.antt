@@ -14,20 +14,20 @@ use Rattle.boundary.proofs.bands.band_cq_rk.Tie as tie
 
 -- the letter round the critical point, if none of the boundaries is lost
 whole : (c : tie.After-all-finite) →
-    let tcd = c .before .before .before .before .before .raw-boundary .result in
-    let tqu = c .before .before .before .before .raw-boundary2 .result in
-    let trx = c .before .before .before .raw-boundary3 .result in
-    let tjk = c .before .before .raw-boundary4 .result in
+    let tcd = c .before .before .before .before .before .tabled .result in
+    let tqu = c .before .before .before .before .tabled2 .result in
+    let trx = c .before .before .before .tabled3 .result in
+    let tjk = c .before .before .tabled4 .result in
     let a = c .before .before .before .before .before .before .args in
     cq-rkRule (a .p) (a .t) ≡ cond (every finite (tcd ∷ tqu ∷ trx ∷ tjk ∷ [])) (orInside (around tcd tqu trx tjk (a .t) Found Inside) (nearRule (a .p) (a .t))) (refused 5)
 unfolding cq-rkRule every
 whole c =
-    let tcd = c .before .before .before .before .before .raw-boundary .result in
-    let tqu = c .before .before .before .before .raw-boundary2 .result in
-    let trx = c .before .before .before .raw-boundary3 .result in
-    let tjk = c .before .before .raw-boundary4 .result in
+    let tcd = c .before .before .before .before .before .tabled .result in
+    let tqu = c .before .before .before .before .tabled2 .result in
+    let trx = c .before .before .before .tabled3 .result in
+    let tjk = c .before .before .tabled4 .result in
     let a = c .before .before .before .before .before .before .args in
-    rw (← c .before .before .before .before .before .raw-boundary .ensures, ← c .before .before .before .before .raw-boundary2 .ensures, ← c .before .before .before .raw-boundary3 .ensures, ← c .before .before .raw-boundary4 .ensures) (gate tcd _ _ _ (gate tqu _ _ _ (gate trx _ _ _ (gate tjk _ _ _ (around-or tcd tqu trx tjk (a .t) (nearRule (a .p) (a .t)))))))
+    rw (← c .before .before .before .before .before .tabled .ensures, ← c .before .before .before .before .tabled2 .ensures, ← c .before .before .before .tabled3 .ensures, ← c .before .before .tabled4 .ensures) (gate tcd _ _ _ (gate tqu _ _ _ (gate trx _ _ _ (gate tjk _ _ _ (around-or tcd tqu trx tjk (a .t) (nearRule (a .p) (a .t)))))))
 
 returns : tie.Need-returns
 returns c =

@@ -14,17 +14,17 @@ use Rattle.boundary.proofs.bands.band_csrk.Tie as tie
 
 -- the band's letter, if none of its boundaries is lost
 whole : (c : tie.After-all-finite) →
-    let tcd = c .before .before .before .before .raw-boundary .result in
-    let tjk = c .before .before .before .raw-boundary2 .result in
+    let tcd = c .before .before .before .before .tabled .result in
+    let tjk = c .before .before .before .tabled2 .result in
     let tsat = c .before .before .raw-T-saturation .result in
     let a = c .before .before .before .before .before .args in
     csrkRule (a .p) (a .t) ≡ cond (every finite (tcd ∷ tjk ∷ tsat ∷ [])) (value (csrkBy tcd tsat tjk (a .t))) (refused 5)
 unfolding csrkRule every
 whole c =
-    let tcd = c .before .before .before .before .raw-boundary .result in
-    let tjk = c .before .before .before .raw-boundary2 .result in
+    let tcd = c .before .before .before .before .tabled .result in
+    let tjk = c .before .before .before .tabled2 .result in
     let tsat = c .before .before .raw-T-saturation .result in
-    rw (← c .before .before .before .before .raw-boundary .ensures, ← c .before .before .before .raw-boundary2 .ensures, ← T-checked _ (c .before .before .raw-T-saturation .ensures)) (gate tcd _ _ _ (gate tjk _ _ _ (gate tsat _ _ _ refl)))
+    rw (← c .before .before .before .before .tabled .ensures, ← c .before .before .before .tabled2 .ensures, ← T-checked _ (c .before .before .raw-T-saturation .ensures)) (gate tcd _ _ _ (gate tjk _ _ _ (gate tsat _ _ _ refl)))
 
 returns : tie.Need-returns
 returns c = rw (c .by-csrk .ensures, whole (c .before .before), ← c .before .before .all-finite .ensures, c .before .if1 .taken)

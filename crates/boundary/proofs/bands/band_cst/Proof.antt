@@ -14,15 +14,15 @@ use Rattle.boundary.proofs.bands.band_cst.Tie as tie
 
 -- the band's letter, if none of its boundaries is lost
 whole : (c : tie.After-all-finite) →
-    let tcd = c .before .before .before .raw-boundary .result in
+    let tcd = c .before .before .before .tabled .result in
     let tsat = c .before .before .raw-T-saturation .result in
     let a = c .before .before .before .before .args in
     cstRule (a .p) (a .t) ≡ cond (every finite (tcd ∷ tsat ∷ [])) (value (cstBy tcd tsat (a .t))) (refused 5)
 unfolding cstRule every
 whole c =
-    let tcd = c .before .before .before .raw-boundary .result in
+    let tcd = c .before .before .before .tabled .result in
     let tsat = c .before .before .raw-T-saturation .result in
-    rw (← c .before .before .before .raw-boundary .ensures, ← T-checked _ (c .before .before .raw-T-saturation .ensures)) (gate tcd _ _ _ (gate tsat _ _ _ refl))
+    rw (← c .before .before .before .tabled .ensures, ← T-checked _ (c .before .before .raw-T-saturation .ensures)) (gate tcd _ _ _ (gate tsat _ _ _ refl))
 
 returns : tie.Need-returns
 returns c = rw (c .by-cst .ensures, whole (c .before .before), ← c .before .before .all-finite .ensures, c .before .if1 .taken)

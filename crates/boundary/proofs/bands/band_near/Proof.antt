@@ -18,9 +18,9 @@ use Rattle.boundary.proofs.bands.band_near.Tie as tie
 
 -- the letter by the bands of p, if none of the boundaries is lost
 whole : (c : tie.After-all-finite) →
-    let tuv = c .before .before .before .before .raw-boundary .result in
-    let twx = c .before .before .before .raw-boundary2 .result in
-    let tef = c .before .before .raw-boundary3 .result in
+    let tuv = c .before .before .before .before .tabled .result in
+    let twx = c .before .before .before .tabled2 .result in
+    let tef = c .before .before .straight .result in
     let a = c .before .before .before .before .before .args in
     nearRule (a .p) (a .t)
     ≡ cond (every finite (tuv ∷ twx ∷ tef ∷ []))
@@ -30,10 +30,10 @@ whole : (c : tie.After-all-finite) →
     (refused 5)
 unfolding nearRule every
 whole c =
-    let tuv = c .before .before .before .before .raw-boundary .result in
-    let twx = c .before .before .before .raw-boundary2 .result in
-    let tef = c .before .before .raw-boundary3 .result in
-    rw (← c .before .before .before .before .raw-boundary .ensures, ← c .before .before .before .raw-boundary2 .ensures, ← c .before .before .raw-boundary3 .ensures) (gate tuv _ _ _ (gate twx _ _ _ (gate tef _ _ _ refl)))
+    let tuv = c .before .before .before .before .tabled .result in
+    let twx = c .before .before .before .tabled2 .result in
+    let tef = c .before .before .straight .result in
+    rw (← c .before .before .before .before .tabled .ensures, ← c .before .before .before .tabled2 .ensures, ← c .before .before .straight .ensures) (gate tuv _ _ _ (gate twx _ _ _ (gate tef _ _ _ refl)))
 
 returns : tie.Need-returns
 unfolding decimal plus minus scaled round ofBits
