@@ -9,7 +9,7 @@ use borrow.Fn.Kinds.{PK, RK, Out, Dens, endedOf, resT}
 use Rattle.common.specs.Outcome.{Outcome, value, refused}
 use Rattle.common.specs.Answer.{paper, paperVerdict, numberOf}
 use Rattle.common.specs.declared.Refusal.{Refusal}
-use Rattle.common.specs.declared.Refusal.the-variants.{NotFinite, First, Second, State, Step, Property, Columns, Border}
+use Rattle.common.specs.declared.Refusal.the-variants.{NotFinite, First, Second, State, Step, Property, Columns, Border, Unfound}
 use Rattle.common.specs.declared.Answer.{Answer}
 use Rattle.common.specs.declared.Answer.the-variants as answer
 use Rattle.common.specs.declared.Verdict.{Verdict}
@@ -24,7 +24,8 @@ kindOf (suc (suc (suc (suc zero)))) = State
 kindOf (suc (suc (suc (suc (suc zero))))) = Step
 kindOf (suc (suc (suc (suc (suc (suc zero)))))) = Property
 kindOf (suc (suc (suc (suc (suc (suc (suc zero))))))) = Columns
-kindOf (suc (suc (suc (suc (suc (suc (suc (suc n)))))))) = Border
+kindOf (suc (suc (suc (suc (suc (suc (suc (suc zero)))))))) = Border
+kindOf (suc (suc (suc (suc (suc (suc (suc (suc (suc n))))))))) = Unfound
 
 pub kind-number : (k : Refusal) → kindOf (numberOf k) ≡ k
 unfolding kindOf
@@ -36,6 +37,7 @@ kind-number Step = refl
 kind-number Property = refl
 kind-number Columns = refl
 kind-number Border = refl
+kind-number Unfound = refl
 
 -- what has a way back from the paper's number and value is determined by them
 pub same : {R O : Type 0} (f : R → O) (g : O → R) → ((r : R) → g (f r) ≡ r) → (o : O) (r s : R) → f r ≡ o → f s ≡ o → r ≡ s

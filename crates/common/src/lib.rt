@@ -19,6 +19,9 @@ pub struct Kelvin(pub f64);
 // A density.
 pub struct KgPerM3(pub f64);
 
+// A volume.
+pub struct M3PerKg(pub f64);
+
 // An enthalpy.
 pub struct KJPerKg(pub f64);
 
@@ -35,6 +38,7 @@ pub enum Refusal {
     Property,
     Columns,
     Border,
+    Unfound,
 }
 
 // The answer of a call for one number.
@@ -258,6 +262,7 @@ pub fn number(k: Refusal) -> u8
         Refusal::Property => 6,
         Refusal::Columns => 7,
         Refusal::Border => 8,
+        Refusal::Unfound => 15,
     }
 }
 

@@ -1,0 +1,99 @@
+// From a curve and an asked value to the place that the check accepts: the start points, the search, the proposal's range, the check.
+use crate::FoundAnswer;
+use crate::StartsAnswer;
+use border::raw_B23_T2p;
+use border::raw_B23_p2T;
+use checks::check_h;
+use checks::check_p;
+use checks::check_s;
+use common::Answer;
+use common::KJPerKg;
+use common::KJPerKgK;
+use common::Kelvin;
+use common::KgPerM3;
+use common::MPa;
+use common::P_TO;
+use common::Refusal;
+use common::T_FROM;
+use common::Verdict;
+use common::in_d;
+use common::in_t;
+use common::settle;
+use secant::Curve;
+use secant::ProposalAnswer;
+use secant::rtsec;
+use volume::pT2v_at;
+
+// The density of the volume at a pressure, at any p and t.
+fn density_at(p: f64, t: f64) -> Answer {
+    match pT2v_at(MPa(p), Kelvin(t)) {
+        Answer::Value(v) => settle(1.0 / v),
+        Answer::Refused(k) => Answer::Refused(k),
+    }
+}
+
+// On an isotherm: the densities at the border with region 2 and at 100 MPa.
+fn densities(t: f64) -> StartsAnswer {
+    match settle(raw_B23_T2p(Kelvin(t))) {
+        Answer::Value(p) => match density_at(p, t) {
+            Answer::Value(d1) => match density_at(P_TO, t) {
+                Answer::Value(d2) => StartsAnswer::Value(d1, d2),
+                Answer::Refused(k) => StartsAnswer::Refused(k),
+            },
+            Answer::Refused(k) => StartsAnswer::Refused(k),
+        },
+        Answer::Refused(k) => StartsAnswer::Refused(k),
+    }
+}
+
+fn starts(curve: Curve, y: f64) -> StartsAnswer {
+    match curve {
+        Curve::Isochore(_) => match settle(raw_B23_p2T(MPa(y))) {
+            Answer::Value(t) => StartsAnswer::Value(T_FROM, t),
+            Answer::Refused(k) => StartsAnswer::Refused(k),
+        },
+        Curve::Enthalpy(t) => densities(t),
+        Curve::Entropy(t) => densities(t),
+    }
+}
+
+// The proposal in its range, then accepted by the check.
+fn accept(curve: Curve, y: f64, x: f64) -> Verdict {
+    match curve {
+        Curve::Isochore(d) => {
+            if in_t(Kelvin(x)) {
+                return check_p(Kelvin(x), KgPerM3(d), MPa(y));
+            }
+            Verdict::Refused(Refusal::State)
+        }
+        Curve::Enthalpy(t) => {
+            if in_d(KgPerM3(x)) {
+                return check_h(Kelvin(t), KgPerM3(x), KJPerKg(y));
+            }
+            Verdict::Refused(Refusal::State)
+        }
+        Curve::Entropy(t) => {
+            if in_d(KgPerM3(x)) {
+                return check_s(Kelvin(t), KgPerM3(x), KJPerKgK(y));
+            }
+            Verdict::Refused(Refusal::State)
+        }
+    }
+}
+
+fn proposed(curve: Curve, y: f64) -> ProposalAnswer {
+    match starts(curve, y) {
+        StartsAnswer::Value(x1, x2) => rtsec(curve, y, x1, x2),
+        StartsAnswer::Refused(k) => ProposalAnswer::Refused(k),
+    }
+}
+
+pub fn found(curve: Curve, y: f64) -> FoundAnswer {
+    match proposed(curve, y) {
+        ProposalAnswer::Value(x, trials) => match accept(curve, y, x) {
+            Verdict::Accepted => FoundAnswer::Value(x, trials),
+            Verdict::Refused(k) => FoundAnswer::Refused(k),
+        },
+        ProposalAnswer::Refused(k) => FoundAnswer::Refused(k),
+    }
+}
