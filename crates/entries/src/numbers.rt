@@ -3,12 +3,12 @@ use crate::Entry;
 ghost use mathlib.Core.Path.{_≡_};
 ghost use Rattle.entries.specs.Numbers.{entryOf};
 
-// No entry has 0, 17, 26 to 29, 31 to 33, or a number above 34.
+// No entry has 0, 17, 29, 31 to 33, or a number above 37.
 pub fn entry_of(number: u8) -> Entry
     ensures { λ r. ⌜ r ≡ entryOf number ⌝ }
 {
     let k = number as usize;
-    if k < 35 {
+    if k < 38 {
         let entries = [
             Entry::Unnamed,
             Entry::Power,
@@ -36,15 +36,18 @@ pub fn entry_of(number: u8) -> Entry
             Entry::PsRecord,
             Entry::HsRecord,
             Entry::Property,
-            Entry::Unnamed,
-            Entry::Unnamed,
-            Entry::Unnamed,
+            Entry::PvRecord,
+            Entry::ThRecord,
+            Entry::TsRecord,
             Entry::Unnamed,
             Entry::ColumnRow,
             Entry::Unnamed,
             Entry::Unnamed,
             Entry::Unnamed,
             Entry::CpW,
+            Entry::PvT,
+            Entry::ThD,
+            Entry::TsD,
         ];
         return entries[k];
     }
