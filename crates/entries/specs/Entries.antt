@@ -24,7 +24,7 @@ use Rattle.td_record.specs.Steps.{recordRule}
 use Rattle.record.specs.Record.{report}
 use Rattle.region3.specs.Entries.{pTRule, phRule, psRule, hsRule}
 use Rattle.column_run.specs.Columns.{rowRule}
-use Rattle.search.specs.Searches.{pv2T-reg3Rule, Th2d-reg3Rule, Ts2d-reg3Rule, pvRule, ThRule, TsRule, reportSearched}
+use Rattle.search.specs.Calls.{pv2T-reg3Rule, Th2d-reg3Rule, Ts2d-reg3Rule, pvRule, ThRule, TsRule, reportSearched}
 use Rattle.reply.specs.declared.Reply.{Reply}
 use Rattle.reply.specs.Shape.{numberReply, letterReply, recordReply}
 use Rattle.entries.specs.declared.Entry.{Entry}

@@ -12,7 +12,8 @@ use search::FoundAnswer;
 use search::SearchedRecord;
 ghost use mathlib.Core.Path.{_≡_};
 ghost use Rattle.by_number.specs.Together.{paperCpW};
-ghost use Rattle.search.specs.Searches.{paperFound, paperSearched};
+ghost use Rattle.search.specs.Found.{paperFound};
+ghost use Rattle.search.specs.Calls.{paperSearched};
 ghost use Rattle.entries.specs.Named.{rowReply, cpWReply, foundReply, searchedReply, placeOf};
 
 // The refusal of an entry, a boundary, a letter or a phase that does not exist.

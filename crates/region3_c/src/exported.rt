@@ -18,7 +18,8 @@ ghost use Rattle.common.specs.Answer.{paper};
 ghost use Rattle.subregion.specs.Letter.{paperLetter};
 ghost use Rattle.record.specs.Record.{paperRecord};
 ghost use Rattle.exchange_entry.specs.Call.{paperExchange};
-ghost use Rattle.search.specs.Searches.{paperFound, paperSearched};
+ghost use Rattle.search.specs.Found.{paperFound};
+ghost use Rattle.search.specs.Calls.{paperSearched};
 ghost use Rattle.region3_c.specs.Exported.{lentRecord, Exported, ExportedLetter, ExportedRecord, ExportedFound, ExportedSearched, ExportedExchange};
 
 // The caller's ten numbers, in the record's order.
@@ -70,17 +71,17 @@ pub fn exported_record(a: RecordAnswer, out: &mut [f64; 10]) -> u8
 }
 
 // The trials stand behind a pointer of their own: none beside a refusal.
-pub fn exported_found(a: FoundAnswer, out: &mut f64, trials: &mut u32) -> u8
-    ensures { λ r. ⌜ ExportedFound (paperFound a) r (now (out .exit)) (now (trials .exit)) ⌝ }
+pub fn exported_found(a: FoundAnswer, found: &mut f64, trials: &mut u32) -> u8
+    ensures { λ r. ⌜ ExportedFound (paperFound a) r (now (found .exit)) (now (trials .exit)) ⌝ }
 {
     match a {
         FoundAnswer::Value(x, count) => {
-            *out = x;
+            *found = x;
             *trials = count;
             return 0;
         }
         FoundAnswer::Refused(k) => {
-            *out = 0.0;
+            *found = 0.0;
             *trials = 0;
             return number(k);
         }
@@ -92,8 +93,8 @@ pub fn exported_searched(a: SearchedRecord, out: &mut [f64; 10], trials: &mut u3
 {
     *out = fields(a.record);
     *trials = a.trials;
-    let v = a.verdict;
-    verdict_byte(v)
+    let told = a.verdict;
+    verdict_byte(told)
 }
 
 pub fn exported_exchange(a: ExchangeAnswer, pair: &mut u8, out: &mut [f64; 10]) -> u8

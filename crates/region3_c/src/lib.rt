@@ -56,7 +56,7 @@ ghost use Rattle.by_number.specs.Together.{cpAndWRule};
 ghost use Rattle.record.specs.Record.{report};
 ghost use Rattle.td_record.specs.Steps.{recordRule};
 ghost use Rattle.region3.specs.Entries.{pTRule, phRule, psRule, hsRule};
-ghost use Rattle.search.specs.Searches.{pv2T-reg3Rule, Th2d-reg3Rule, Ts2d-reg3Rule, pvRule, ThRule, TsRule, reportSearched};
+ghost use Rattle.search.specs.Calls.{pv2T-reg3Rule, Th2d-reg3Rule, Ts2d-reg3Rule, pvRule, ThRule, TsRule, reportSearched};
 ghost use Rattle.column_run.specs.Columns.{lent, columnsRule};
 ghost use Rattle.exchange_writer.specs.Written.{writtenBy};
 ghost use Rattle.region3_c.specs.Exported.{Exported, ExportedLetter, ExportedRecord, ExportedFound, ExportedSearched, ExportedColumns, ExportedRead};
@@ -211,14 +211,22 @@ pub extern "C" fn r3_pv(p: f64, v: f64, out: &mut [f64; 10], trials: &mut u32) -
 pub extern "C" fn r3_th(t: f64, h: f64, out: &mut [f64; 10], trials: &mut u32) -> u8
     ensures { λ r. ⌜ ExportedSearched (reportSearched (ThRule t h)) r (now (out .exit)) (now (trials .exit)) ⌝ }
 {
-    exported_searched(Th_reg3(lent_record(*out), Kelvin(t), KJPerKg(h)), out, trials)
+    exported_searched(
+        Th_reg3(lent_record(*out), Kelvin(t), KJPerKg(h)),
+        out,
+        trials,
+    )
 }
 
 #[no_mangle]
 pub extern "C" fn r3_ts(t: f64, s: f64, out: &mut [f64; 10], trials: &mut u32) -> u8
     ensures { λ r. ⌜ ExportedSearched (reportSearched (TsRule t s)) r (now (out .exit)) (now (trials .exit)) ⌝ }
 {
-    exported_searched(Ts_reg3(lent_record(*out), Kelvin(t), KJPerKgK(s)), out, trials)
+    exported_searched(
+        Ts_reg3(lent_record(*out), Kelvin(t), KJPerKgK(s)),
+        out,
+        trials,
+    )
 }
 
 // The column run: 0, or 7 and nothing written.
