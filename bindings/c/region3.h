@@ -12,7 +12,7 @@
  *  - A pointer is to live memory of the size that its type or its length says, aligned, and no memory that a call writes overlaps other memory
  *    of that call.
  *  - The processor rounds to nearest, ties to even, as every C program starts. In another rounding mode (fesetround, or a library that sets one)
- *    15 of the 17 calls answered other bits at some of a thousand points. r3_rounds_to_nearest() tells which it is. Flush-to-zero changed none
+ *    21 of the 23 calls answered other bits at some of a thousand points. r3_rounds_to_nearest() tells which it is. Flush-to-zero changed none
  *    of the first 14 calls, tried at a point each; where a step is subnormal it can: 1e-160 squared by r3_power is then 0.
  *
  * What a number is worth (docs/DIFFERENCES.md has each with its input):
@@ -53,13 +53,14 @@ enum {
     R3_PROPERTY = 6,   /* the property's number is unknown */
     R3_COLUMNS = 7,    /* the columns are of unequal length */
     R3_BORDER = 8,     /* T is above the border with region 2 at p: r3_pt, r3_letter, a row of r3_columns */
-    R3_UNFOUND = 15,   /* what a search proposes has not the property that was asked: r3_pv, r3_th, r3_ts, r3_pv2t, r3_th2d, r3_ts2d */
     /* of r3_read alone, before the pair's own numbers: at the first field that meets one, and 14 at the end */
     R3_PAST_END = 10,      /* a field or its header runs past the end */
     R3_UNKNOWN_TAG = 11,   /* a field's tag is unknown */
     R3_WRONG_LENGTH = 12,  /* a known field is not of 8 bytes */
     R3_OUT_OF_ORDER = 13,  /* a known tag is not above the one before */
     R3_NOT_A_PAIR = 14,    /* the known tags are not one of the five pairs */
+    /* of a search alone: r3_pv, r3_th, r3_ts, r3_pv2t, r3_th2d, r3_ts2d */
+    R3_UNFOUND = 15,       /* what the search proposes has not the property that was asked for */
     /* of r3_write alone, after the pair's own numbers */
     R3_NO_ROOM = 16,       /* fewer than 22 bytes are lent */
     R3_NO_SUCH_PAIR = 255  /* the pair byte is none of R3_PAIR_.. */
