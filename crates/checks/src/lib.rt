@@ -11,6 +11,7 @@ use common::Verdict;
 use common::check_Td;
 use common::is_finite;
 use common::settle;
+use common::size;
 use properties::raw_h;
 use properties::raw_s;
 use properties::state_p;
@@ -29,10 +30,8 @@ fn held(worked: Answer, y: f64) -> Verdict
         Answer::Value(x) => {
             let e = x - y;
             if is_finite(e) {
-                if -NEAR <= e {
-                    if e <= NEAR {
-                        return Verdict::Accepted;
-                    }
+                if size(e) <= NEAR {
+                    return Verdict::Accepted;
                 }
                 return Verdict::Refused(Refusal::Unfound);
             }

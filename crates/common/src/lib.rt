@@ -4,7 +4,7 @@
 ghost use mathlib.Core.Path.{_≡_};
 ghost use Prim.Native.Nat.{_-_};
 ghost use Rattle.common.specs.Outcome.{finite, check, orNan, numberIn};
-ghost use Rattle.common.specs.Formula.{rawOver};
+ghost use Rattle.common.specs.Formula.{sizeOf, rawOver};
 ghost use Rattle.common.specs.Answer.{numberOf, paper, paperVerdict};
 ghost use Rattle.common.specs.Range.{within, onlyRule, pairRule, TdBox, hsBox, pTBox, phBox, psBox};
 ghost use Rattle.common.specs.Property.{propertyNumbers};
@@ -220,6 +220,16 @@ pub fn over(x: f64, y: f64) -> f64
     ensures { λ r. ⌜ r ≡ rawOver x y ⌝ }
 {
     if is_finite(y) { x / y } else { y }
+}
+
+// x without its sign.
+pub fn size(x: f64) -> f64
+    ensures { λ r. ⌜ r ≡ sizeOf x ⌝ }
+{
+    if x < 0.0 {
+        return -x;
+    }
+    x
 }
 
 // The smaller of two counts.

@@ -26,10 +26,21 @@ use record::Record;
 use record::RecordAnswer;
 use record::refuse;
 use secant::Curve;
-use td_record::Td_reg3;
+use td_record::Pressure;
+use td_record::work_record;
+ghost use mathlib.Core.Path.{_≡_};
+ghost use Rattle.common.specs.Outcome.{refused};
+ghost use Rattle.common.specs.Answer.{numberOf, paperVerdict};
+ghost use Rattle.record.specs.Record.{paperRecord};
+ghost use Rattle.td_record.specs.Steps.{recordSteps};
+ghost use Rattle.td_record.specs.declared.Pressure.the-variants.{Worked};
+ghost use Rattle.search.specs.Found.{paperFound};
+ghost use Rattle.search.specs.Calls.{pvBox, ThBox, TsBox, pv2T-reg3Rule, Th2d-reg3Rule, Ts2d-reg3Rule, recordFound, withTrials, pvRule, ThRule, TsRule, paperSearched, reportSearched};
 
 // The checks of the three pairs. A volume is held to the range of its density, which is worked for that: 1/v of a v next to 0 is outside.
-pub fn check_pv(p: MPa, v: M3PerKg) -> Verdict {
+pub fn check_pv(p: MPa, v: M3PerKg) -> Verdict
+    ensures { λ r. ⌜ paperVerdict r ≡ pvBox (p .0) (v .0) ⌝ }
+{
     if is_finite(p.0) {
         if is_finite(v.0) {
             if in_p(p) {
@@ -44,16 +55,22 @@ pub fn check_pv(p: MPa, v: M3PerKg) -> Verdict {
     Verdict::Refused(Refusal::NotFinite)
 }
 
-pub fn check_Th(t: Kelvin, h: KJPerKg) -> Verdict {
+pub fn check_Th(t: Kelvin, h: KJPerKg) -> Verdict
+    ensures { λ r. ⌜ paperVerdict r ≡ ThBox (t .0) (h .0) ⌝ }
+{
     check_pair(t.0, T_FROM, T_TO, h.0, H_FROM, H_TO)
 }
 
-pub fn check_Ts(t: Kelvin, s: KJPerKgK) -> Verdict {
+pub fn check_Ts(t: Kelvin, s: KJPerKgK) -> Verdict
+    ensures { λ r. ⌜ paperVerdict r ≡ TsBox (t .0) (s .0) ⌝ }
+{
     check_pair(t.0, T_FROM, T_TO, s.0, S_FROM, S_TO)
 }
 
 // The T at p and v.
-pub fn pv2T_reg3(p: MPa, v: M3PerKg) -> FoundAnswer {
+pub fn pv2T_reg3(p: MPa, v: M3PerKg) -> FoundAnswer
+    ensures { λ r. ⌜ paperFound r ≡ pv2T-reg3Rule (p .0) (v .0) ⌝ }
+{
     match check_pv(p, v) {
         Verdict::Accepted => found(Curve::Isochore(1.0 / v.0), p.0),
         Verdict::Refused(k) => FoundAnswer::Refused(k),
@@ -61,7 +78,9 @@ pub fn pv2T_reg3(p: MPa, v: M3PerKg) -> FoundAnswer {
 }
 
 // The d at T and h.
-pub fn Th2d_reg3(t: Kelvin, h: KJPerKg) -> FoundAnswer {
+pub fn Th2d_reg3(t: Kelvin, h: KJPerKg) -> FoundAnswer
+    ensures { λ r. ⌜ paperFound r ≡ Th2d-reg3Rule (t .0) (h .0) ⌝ }
+{
     match check_Th(t, h) {
         Verdict::Accepted => found(Curve::Enthalpy(t.0), h.0),
         Verdict::Refused(k) => FoundAnswer::Refused(k),
@@ -69,7 +88,9 @@ pub fn Th2d_reg3(t: Kelvin, h: KJPerKg) -> FoundAnswer {
 }
 
 // The d at T and s.
-pub fn Ts2d_reg3(t: Kelvin, s: KJPerKgK) -> FoundAnswer {
+pub fn Ts2d_reg3(t: Kelvin, s: KJPerKgK) -> FoundAnswer
+    ensures { λ r. ⌜ paperFound r ≡ Ts2d-reg3Rule (t .0) (s .0) ⌝ }
+{
     match check_Ts(t, s) {
         Verdict::Accepted => found(Curve::Entropy(t.0), s.0),
         Verdict::Refused(k) => FoundAnswer::Refused(k),
@@ -77,7 +98,9 @@ pub fn Ts2d_reg3(t: Kelvin, s: KJPerKgK) -> FoundAnswer {
 }
 
 // A record with the trials that led to its state: none where it is refused.
-fn counted(a: RecordAnswer, trials: u32) -> SearchedRecord {
+fn counted(a: RecordAnswer, trials: u32) -> SearchedRecord
+    ensures { λ r. ⌜ paperSearched r ≡ withTrials trials (paperRecord a) ⌝ }
+{
     let verdict = a.verdict;
     let record = a.record;
     match verdict {
@@ -94,29 +117,48 @@ fn counted(a: RecordAnswer, trials: u32) -> SearchedRecord {
     }
 }
 
-// The record at (p,v): its v is 1/d, which need not be the v that was asked.
-pub fn pv_reg3(given: Record, p: MPa, v: M3PerKg) -> SearchedRecord {
+// The record at a T and a d that were found, and a v, with the trials.
+fn record_at(given: Record, t: Kelvin, d: KgPerM3, v: f64, trials: u32) -> SearchedRecord
+    ensures { λ r. ⌜ paperSearched r ≡ reportSearched (recordFound (recordSteps (t .0) (d .0) v Worked) trials) ⌝ }
+{
+    counted(work_record(given, t, d, v, Pressure::Worked), trials)
+}
+
+fn refused_record(given: Record, k: Refusal) -> SearchedRecord
+    ensures { λ r. ⌜ paperSearched r ≡ reportSearched (refused (numberOf k)) ⌝ }
+{
+    counted(refuse(given, k), 0)
+}
+
+// The record at (p,v). Its v is 1/d, d being 1/v: not always the v that was asked.
+pub fn pv_reg3(given: Record, p: MPa, v: M3PerKg) -> SearchedRecord
+    ensures { λ r. ⌜ paperSearched r ≡ reportSearched (pvRule (p .0) (v .0)) ⌝ }
+{
     match pv2T_reg3(p, v) {
-        FoundAnswer::Value(t, trials) => counted(
-            Td_reg3(given, Kelvin(t), KgPerM3(1.0 / v.0)),
-            trials,
-        ),
-        FoundAnswer::Refused(k) => counted(refuse(given, k), 0),
+        FoundAnswer::Value(t, trials) => {
+            let d = 1.0 / v.0;
+            record_at(given, Kelvin(t), KgPerM3(d), 1.0 / d, trials)
+        }
+        FoundAnswer::Refused(k) => refused_record(given, k),
     }
 }
 
 // The record at (T,h).
-pub fn Th_reg3(given: Record, t: Kelvin, h: KJPerKg) -> SearchedRecord {
+pub fn Th_reg3(given: Record, t: Kelvin, h: KJPerKg) -> SearchedRecord
+    ensures { λ r. ⌜ paperSearched r ≡ reportSearched (ThRule (t .0) (h .0)) ⌝ }
+{
     match Th2d_reg3(t, h) {
-        FoundAnswer::Value(d, trials) => counted(Td_reg3(given, t, KgPerM3(d)), trials),
-        FoundAnswer::Refused(k) => counted(refuse(given, k), 0),
+        FoundAnswer::Value(d, trials) => record_at(given, t, KgPerM3(d), 1.0 / d, trials),
+        FoundAnswer::Refused(k) => refused_record(given, k),
     }
 }
 
 // The record at (T,s).
-pub fn Ts_reg3(given: Record, t: Kelvin, s: KJPerKgK) -> SearchedRecord {
+pub fn Ts_reg3(given: Record, t: Kelvin, s: KJPerKgK) -> SearchedRecord
+    ensures { λ r. ⌜ paperSearched r ≡ reportSearched (TsRule (t .0) (s .0)) ⌝ }
+{
     match Ts2d_reg3(t, s) {
-        FoundAnswer::Value(d, trials) => counted(Td_reg3(given, t, KgPerM3(d)), trials),
-        FoundAnswer::Refused(k) => counted(refuse(given, k), 0),
+        FoundAnswer::Value(d, trials) => record_at(given, t, KgPerM3(d), 1.0 / d, trials),
+        FoundAnswer::Refused(k) => refused_record(given, k),
     }
 }

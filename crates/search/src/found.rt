@@ -23,9 +23,15 @@ use secant::Curve;
 use secant::ProposalAnswer;
 use secant::rtsec;
 use volume::pT2v_at;
+ghost use mathlib.Core.Path.{_≡_};
+ghost use Rattle.common.specs.Answer.{paper, paperVerdict};
+ghost use Rattle.secant.specs.Secant.{paperProposal};
+ghost use Rattle.search.specs.Found.{paperStarts, paperFound, densityAt, densitiesAt, startsOf, acceptedAt, proposedFor, foundOn};
 
 // The density of the volume at a pressure, at any p and t.
-fn density_at(p: f64, t: f64) -> Answer {
+fn density_at(p: f64, t: f64) -> Answer
+    ensures { λ r. ⌜ paper r ≡ densityAt p t ⌝ }
+{
     match pT2v_at(MPa(p), Kelvin(t)) {
         Answer::Value(v) => settle(1.0 / v),
         Answer::Refused(k) => Answer::Refused(k),
@@ -33,7 +39,9 @@ fn density_at(p: f64, t: f64) -> Answer {
 }
 
 // On an isotherm: the densities at the border with region 2 and at 100 MPa.
-fn densities(t: f64) -> StartsAnswer {
+fn densities(t: f64) -> StartsAnswer
+    ensures { λ r. ⌜ paperStarts r ≡ densitiesAt t ⌝ }
+{
     match settle(raw_B23_T2p(Kelvin(t))) {
         Answer::Value(p) => match density_at(p, t) {
             Answer::Value(d1) => match density_at(P_TO, t) {
@@ -46,7 +54,9 @@ fn densities(t: f64) -> StartsAnswer {
     }
 }
 
-fn starts(curve: Curve, y: f64) -> StartsAnswer {
+fn starts(curve: Curve, y: f64) -> StartsAnswer
+    ensures { λ r. ⌜ paperStarts r ≡ startsOf curve y ⌝ }
+{
     match curve {
         Curve::Isochore(_) => match settle(raw_B23_p2T(MPa(y))) {
             Answer::Value(t) => StartsAnswer::Value(T_FROM, t),
@@ -58,7 +68,9 @@ fn starts(curve: Curve, y: f64) -> StartsAnswer {
 }
 
 // The proposal in its range, then accepted by the check.
-fn accept(curve: Curve, y: f64, x: f64) -> Verdict {
+fn accept(curve: Curve, y: f64, x: f64) -> Verdict
+    ensures { λ r. ⌜ paperVerdict r ≡ acceptedAt curve y x ⌝ }
+{
     match curve {
         Curve::Isochore(d) => {
             if in_t(Kelvin(x)) {
@@ -81,14 +93,18 @@ fn accept(curve: Curve, y: f64, x: f64) -> Verdict {
     }
 }
 
-fn proposed(curve: Curve, y: f64) -> ProposalAnswer {
+fn proposed(curve: Curve, y: f64) -> ProposalAnswer
+    ensures { λ r. ⌜ paperProposal r ≡ proposedFor curve y ⌝ }
+{
     match starts(curve, y) {
         StartsAnswer::Value(x1, x2) => rtsec(curve, y, x1, x2),
         StartsAnswer::Refused(k) => ProposalAnswer::Refused(k),
     }
 }
 
-pub fn found(curve: Curve, y: f64) -> FoundAnswer {
+pub fn found(curve: Curve, y: f64) -> FoundAnswer
+    ensures { λ r. ⌜ paperFound r ≡ foundOn curve y ⌝ }
+{
     match proposed(curve, y) {
         ProposalAnswer::Value(x, trials) => match accept(curve, y, x) {
             Verdict::Accepted => FoundAnswer::Value(x, trials),

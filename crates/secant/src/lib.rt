@@ -4,11 +4,12 @@ use common::Kelvin;
 use common::KgPerM3;
 use common::Refusal;
 use common::is_finite;
+use common::size;
 use properties::raw_h;
 use properties::raw_p;
 use properties::raw_s;
 ghost use mathlib.Core.Path.{_≡_};
-ghost use Rattle.common.specs.Formula.{Raw, sizeOf};
+ghost use Rattle.common.specs.Formula.{Raw};
 ghost use Rattle.secant.specs.Secant.{along, missingAt, liftedTo, openedBy, startOf, trialBy, turnOf, proposalFrom, proposalRule, paperSecant, paperTurn, paperProposal};
 
 // A property along the one of T and d that is searched, at the other.
@@ -56,12 +57,6 @@ const CONVERGENCE_PRECISION: f64 = 1.0e-8;
 // Where a place that is not above 0 is put.
 const LIFTED: f64 = 0.000001;
 
-fn size(x: f64) -> f64
-    ensures { λ r. ⌜ r ≡ sizeOf x ⌝ }
-{
-    if x < 0.0 { -x } else { x }
-}
-
 // What is missing at x of the asked y.
 fn missing(curve: Curve, y: f64, x: f64) -> f64
     ensures { λ r. ⌜ Raw (missingAt curve y x) r ⌝ }
@@ -98,6 +93,7 @@ fn opened(s: Secant) -> SecantAnswer
                 dx,
             });
         }
+        return SecantAnswer::Lost;
     }
     SecantAnswer::Lost
 }
@@ -127,6 +123,7 @@ fn start(curve: Curve, y: f64, x1: f64, x2: f64) -> SecantAnswer
                 dx: 0.0,
             });
         }
+        return SecantAnswer::Lost;
     }
     SecantAnswer::Lost
 }
@@ -150,13 +147,15 @@ fn trial(curve: Curve, y: f64, s: Secant, e: f64) -> SecantAnswer
                     dx,
                 });
             }
+            return SecantAnswer::Lost;
         }
+        return SecantAnswer::Lost;
     }
     SecantAnswer::Lost
 }
 
 // A trial more, where one is asked for.
-fn turn(curve: Curve, y: f64, s: Secant) -> Turn
+fn try_next(curve: Curve, y: f64, s: Secant) -> Turn
     ensures { λ r. ⌜ paperTurn r ≡ turnOf curve y s ⌝ }
 {
     if CONVERGENCE_PRECISION < size(s.dx) {
@@ -185,7 +184,7 @@ fn trials(curve: Curve, y: f64, from: Secant) -> ProposalAnswer
     let mut at = from;
     let mut count: u32 = 0;
     while count < MAX_ITER {
-        match turn(curve, y, at) {
+        match try_next(curve, y, at) {
             Turn::Tried(next) => {
                 at = next;
                 count += 1;
