@@ -8,9 +8,6 @@ use mathlib.Core.List.{List, [], _∷_}
 use lib.ListN.{length}
 use lib.Ieee.{Float}
 use Rattle.common.specs.Outcome.{Outcome, value, refused, check, then}
-use Rattle.common.specs.Constant.{T-FROM, T-TO, D-FROM, D-TO}
-use Rattle.common.specs.Range.{within}
-use Rattle.record.specs.State.{tested}
 use Rattle.record.specs.declared.Record.{Record}
 use Rattle.properties.specs.Td.{Td2h, Td2s, Td2u, Td2cv, Td2cp, Td2w, statePressure}
 use Rattle.td_record.specs.Steps.{recordSteps, recordAfter}
@@ -19,9 +16,8 @@ use Rattle.secant.specs.Secant.{MAX-ITER, startOf, Next, ended, tried, turnOf, 
 use Rattle.secant.specs.declared.Curve.{Curve}
 use Rattle.secant.specs.declared.Curve.the-variants.{Isochore, Enthalpy, Entropy}
 use Rattle.secant.specs.declared.Secant.{Secant}
-use Rattle.checks.specs.Checks.{checkPRule, checkHRule, checkSRule}
 use Rattle.checks.proofs.Promise.{went-on, no-value, Within, p-within, h-within, s-within}
-use Rattle.search.specs.Found.{startsOf, proposedFor, acceptedAt, foundOn}
+use Rattle.search.specs.Found.{startsOf, proposedFor, inRange, checkOn, acceptedAt, foundOn}
 use Rattle.search.specs.Calls.{densityBy, pvBox, ThBox, TsBox, pv2T-reg3Rule, Th2d-reg3Rule, Ts2d-reg3Rule, recordOn, Searched, pvRule, ThRule, TsRule}
 
 -- ---- the trials
@@ -83,39 +79,26 @@ module _ (curve : Curve) (y : Float) where
 
 -- ---- T or d: the check at the place that is answered
 
-tested-is : (from to x z : Float) → tested from to x ≡ value z → x ≡ z
-tested-is from to x z e = by (within from to x) e
+-- what is accepted has passed the check
+passed : (curve : Curve) (y x : Float) (u : Unit) → acceptedAt curve y x ≡ value u → checkOn curve y x ≡ value u
+unfolding acceptedAt
+passed curve y x u e = by (inRange curve x) e
   where
-    by : (b : Bool) → cond b (value x) (refused 4) ≡ value z → x ≡ z
-    by true k = cc
-    by false k = absurd (no-value 4 z k)
-
-isochore-within : (d y x : Float) (u : Unit) → acceptedAt (Isochore d) y x ≡ value u → Within (statePressure (check x) (check d)) y
-unfolding acceptedAt
-isochore-within d y x u e =
-    went-on (tested T-FROM T-TO x) _ u _ e (λ z h k. let same : x ≡ z = tested-is T-FROM T-TO x z h in rw same (p-within z d y u k))
-
-enthalpy-within : (t y x : Float) (u : Unit) → acceptedAt (Enthalpy t) y x ≡ value u → Within (Td2h (check t) (check x)) y
-unfolding acceptedAt
-enthalpy-within t y x u e =
-    went-on (tested D-FROM D-TO x) _ u _ e (λ z h k. let same : x ≡ z = tested-is D-FROM D-TO x z h in rw same (h-within t z y u k))
-
-entropy-within : (t y x : Float) (u : Unit) → acceptedAt (Entropy t) y x ≡ value u → Within (Td2s (check t) (check x)) y
-unfolding acceptedAt
-entropy-within t y x u e =
-    went-on (tested D-FROM D-TO x) _ u _ e (λ z h k. let same : x ≡ z = tested-is D-FROM D-TO x z h in rw same (s-within t z y u k))
+    by : (b : Bool) → cond b (checkOn curve y x) (refused 4) ≡ value u → checkOn curve y x ≡ value u
+    by true k = k
+    by false k = absurd (no-value 4 u k)
 
 pub T-within : (p v : Float) (q : Proposal) → pv2T-reg3Rule p v ≡ value q → Within (statePressure (check (q .x)) (check (densityBy v))) p
 unfolding pv2T-reg3Rule
-T-within p v q e = went-on (pvBox p v) _ q _ e (λ _ _ k. found-accepted (Isochore (densityBy v)) p q _ k (isochore-within (densityBy v) p (q .x)))
+T-within p v q e = went-on (pvBox p v) _ q _ e (λ _ _ k. found-accepted (Isochore (densityBy v)) p q _ k (λ u g. p-within (q .x) (densityBy v) p u (passed (Isochore (densityBy v)) p (q .x) u g)))
 
 pub d-within-h : (t h : Float) (q : Proposal) → Th2d-reg3Rule t h ≡ value q → Within (Td2h (check t) (check (q .x))) h
 unfolding Th2d-reg3Rule
-d-within-h t h q e = went-on (ThBox t h) _ q _ e (λ _ _ k. found-accepted (Enthalpy t) h q _ k (enthalpy-within t h (q .x)))
+d-within-h t h q e = went-on (ThBox t h) _ q _ e (λ _ _ k. found-accepted (Enthalpy t) h q _ k (λ u g. h-within t (q .x) h u (passed (Enthalpy t) h (q .x) u g)))
 
 pub d-within-s : (t s : Float) (q : Proposal) → Ts2d-reg3Rule t s ≡ value q → Within (Td2s (check t) (check (q .x))) s
 unfolding Ts2d-reg3Rule
-d-within-s t s q e = went-on (TsBox t s) _ q _ e (λ _ _ k. found-accepted (Entropy t) s q _ k (entropy-within t s (q .x)))
+d-within-s t s q e = went-on (TsBox t s) _ q _ e (λ _ _ k. found-accepted (Entropy t) s q _ k (λ u g. s-within t (q .x) s u (passed (Entropy t) s (q .x) u g)))
 
 -- ---- the records
 

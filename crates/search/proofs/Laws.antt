@@ -5,8 +5,7 @@ use mathlib.Core.Bool.{true, false}
 use lib.Ieee.{Float, binary64, add}
 use Rattle.common.specs.Outcome.{Outcome, value, refused, check, inside, orNan}
 use Rattle.common.specs.Formula.{worked}
-use Rattle.common.specs.Constant.{P-TO, T-FROM, T-TO, D-FROM, D-TO}
-use Rattle.common.specs.Range.{within}
+use Rattle.common.specs.Constant.{P-TO}
 use Rattle.common.proofs.Laws.{inside-check, raw-inside}
 use Rattle.common.proofs.Formulas.{five, five-add, five-sub, five-mul, five-div, five-inside}
 use Rattle.rules.specs.Root.{rootRule}
@@ -15,9 +14,7 @@ use Rattle.record.specs.Record.{report}
 use Rattle.record.specs.declared.Record.{Record}
 use Rattle.secant.specs.Secant.{Proposal}
 use Rattle.secant.specs.declared.Curve.{Curve}
-use Rattle.secant.specs.declared.Curve.the-variants.{Isochore, Enthalpy, Entropy}
-use Rattle.checks.specs.Checks.{checkPRule, checkHRule, checkSRule}
-use Rattle.search.specs.Found.{densityAt, densitiesAt, acceptedAt, proposedFor, foundOn}
+use Rattle.search.specs.Found.{densityAt, densitiesAt, inRange, checkOn, acceptedAt, proposedFor, foundOn}
 use Rattle.search.specs.Calls.{recordFound, reportSearched, withTrials}
 
 -- ---- the border's number, checked once, is the border: its last step is a sum
@@ -57,31 +54,14 @@ module _ (t : Float) where
 
 -- ---- the proposal's range, then the check
 
-module _ (d y x : Float) where
-  pub T-inside : within T-FROM T-TO x ≡ true → acceptedAt (Isochore d) y x ≡ checkPRule x d y
+module _ (curve : Curve) (y x : Float) where
+  pub place-inside : inRange curve x ≡ true → acceptedAt curve y x ≡ checkOn curve y x
   unfolding acceptedAt
-  T-inside h = rw h
+  place-inside h = rw h
 
-  pub T-outside : within T-FROM T-TO x ≡ false → acceptedAt (Isochore d) y x ≡ refused 4
+  pub place-outside : inRange curve x ≡ false → acceptedAt curve y x ≡ refused 4
   unfolding acceptedAt
-  T-outside h = rw h
-
-module _ (t y x : Float) where
-  pub d-inside-h : within D-FROM D-TO x ≡ true → acceptedAt (Enthalpy t) y x ≡ checkHRule t x y
-  unfolding acceptedAt
-  d-inside-h h = rw h
-
-  pub d-outside-h : within D-FROM D-TO x ≡ false → acceptedAt (Enthalpy t) y x ≡ refused 4
-  unfolding acceptedAt
-  d-outside-h h = rw h
-
-  pub d-inside-s : within D-FROM D-TO x ≡ true → acceptedAt (Entropy t) y x ≡ checkSRule t x y
-  unfolding acceptedAt
-  d-inside-s h = rw h
-
-  pub d-outside-s : within D-FROM D-TO x ≡ false → acceptedAt (Entropy t) y x ≡ refused 4
-  unfolding acceptedAt
-  d-outside-s h = rw h
+  place-outside h = rw h
 
 -- ---- what is found
 

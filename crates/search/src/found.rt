@@ -26,7 +26,7 @@ use volume::pT2v_at;
 ghost use mathlib.Core.Path.{_≡_};
 ghost use Rattle.common.specs.Answer.{paper, paperVerdict};
 ghost use Rattle.secant.specs.Secant.{paperProposal};
-ghost use Rattle.search.specs.Found.{paperStarts, paperFound, densityAt, densitiesAt, startsOf, acceptedAt, proposedFor, foundOn};
+ghost use Rattle.search.specs.Found.{paperStarts, paperFound, densityAt, densitiesAt, startsOf, inRange, checkOn, acceptedAt, proposedFor, foundOn};
 
 // The density of the volume at a pressure, at any p and t.
 fn density_at(p: f64, t: f64) -> Answer
@@ -67,30 +67,36 @@ fn starts(curve: Curve, y: f64) -> StartsAnswer
     }
 }
 
-// The proposal in its range, then accepted by the check.
+// Whether a place is in the range of what is searched.
+fn in_range(curve: Curve, x: f64) -> bool
+    ensures { λ r. ⌜ r ≡ inRange curve x ⌝ }
+{
+    match curve {
+        Curve::Isochore(_) => in_t(Kelvin(x)),
+        Curve::Enthalpy(_) => in_d(KgPerM3(x)),
+        Curve::Entropy(_) => in_d(KgPerM3(x)),
+    }
+}
+
+// The check at a place.
+fn checked(curve: Curve, y: f64, x: f64) -> Verdict
+    ensures { λ r. ⌜ paperVerdict r ≡ checkOn curve y x ⌝ }
+{
+    match curve {
+        Curve::Isochore(d) => check_p(Kelvin(x), KgPerM3(d), MPa(y)),
+        Curve::Enthalpy(t) => check_h(Kelvin(t), KgPerM3(x), KJPerKg(y)),
+        Curve::Entropy(t) => check_s(Kelvin(t), KgPerM3(x), KJPerKgK(y)),
+    }
+}
+
+// A proposal in its range, then accepted by the check.
 fn accept(curve: Curve, y: f64, x: f64) -> Verdict
     ensures { λ r. ⌜ paperVerdict r ≡ acceptedAt curve y x ⌝ }
 {
-    match curve {
-        Curve::Isochore(d) => {
-            if in_t(Kelvin(x)) {
-                return check_p(Kelvin(x), KgPerM3(d), MPa(y));
-            }
-            Verdict::Refused(Refusal::State)
-        }
-        Curve::Enthalpy(t) => {
-            if in_d(KgPerM3(x)) {
-                return check_h(Kelvin(t), KgPerM3(x), KJPerKg(y));
-            }
-            Verdict::Refused(Refusal::State)
-        }
-        Curve::Entropy(t) => {
-            if in_d(KgPerM3(x)) {
-                return check_s(Kelvin(t), KgPerM3(x), KJPerKgK(y));
-            }
-            Verdict::Refused(Refusal::State)
-        }
+    if in_range(curve, x) {
+        return checked(curve, y, x);
     }
+    Verdict::Refused(Refusal::State)
 }
 
 fn proposed(curve: Curve, y: f64) -> ProposalAnswer
