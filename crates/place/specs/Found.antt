@@ -15,10 +15,10 @@ use Rattle.secant.specs.Secant.{Proposal, proposalRule}
 use Rattle.secant.specs.declared.Curve.{Curve}
 use Rattle.secant.specs.declared.Curve.the-variants.{Isochore, Enthalpy, Entropy}
 use Rattle.checks.specs.Checks.{checkPRule, checkHRule, checkSRule}
-use Rattle.search.specs.declared.StartsAnswer.{StartsAnswer}
-use Rattle.search.specs.declared.StartsAnswer.the-variants as starts
-use Rattle.search.specs.declared.FoundAnswer.{FoundAnswer}
-use Rattle.search.specs.declared.FoundAnswer.the-variants as found
+use Rattle.place.specs.declared.StartsAnswer.{StartsAnswer}
+use Rattle.place.specs.declared.StartsAnswer.the-variants as starts
+use Rattle.place.specs.declared.FoundAnswer.{FoundAnswer}
+use Rattle.place.specs.declared.FoundAnswer.the-variants as found
 
 -- ---- the start points
 

@@ -1,7 +1,7 @@
--- `search::checked` meets its contract: by the curve. Assumes nothing.
+-- `place::checked` meets its contract: by the curve. Assumes nothing.
 use borrow.Author.Needs.{needs}
-use Rattle.search.proofs.found.checked.Statement.{statement}
-use Rattle.search.proofs.found.checked.Tie as tie
+use Rattle.place.proofs.checked.Statement.{statement}
+use Rattle.place.proofs.checked.Tie as tie
 
 returns : tie.Need-returns
 returns c = rw (c .before .before .curve .given .1) (c .check-p .ensures)

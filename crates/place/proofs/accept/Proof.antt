@@ -1,9 +1,9 @@
--- `search::accept` meets its contract: the range, then the check. Assumes nothing.
+-- `place::accept` meets its contract: the range, then the check. Assumes nothing.
 use mathlib.Core.Path.{sym, _∙_}
 use borrow.Author.Needs.{needs}
-use Rattle.search.proofs.Laws.{place-inside, place-outside}
-use Rattle.search.proofs.found.accept.Statement.{statement}
-use Rattle.search.proofs.found.accept.Tie as tie
+use Rattle.place.proofs.Laws.{place-inside, place-outside}
+use Rattle.place.proofs.accept.Statement.{statement}
+use Rattle.place.proofs.accept.Tie as tie
 
 returns : tie.Need-returns
 returns c =

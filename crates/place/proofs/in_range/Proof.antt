@@ -1,7 +1,7 @@
--- `search::in_range` meets its contract: by the curve. Assumes nothing.
+-- `place::in_range` meets its contract: by the curve. Assumes nothing.
 use borrow.Author.Needs.{needs}
-use Rattle.search.proofs.found.in_range.Statement.{statement}
-use Rattle.search.proofs.found.in_range.Tie as tie
+use Rattle.place.proofs.in_range.Statement.{statement}
+use Rattle.place.proofs.in_range.Tie as tie
 
 returns : tie.Need-returns
 returns c = rw (c .before .enum-told .given .1) (c .in-t .ensures)
