@@ -1,16 +1,11 @@
 -- Each contract admits one answer, the trials included, whatever the caller's record holds. Assumes nothing.
 use Prim.Native.Nat.{ℕ}
-use mathlib.Core.Path.{_≡_, refl, ap}
-use Rattle.common.specs.Outcome.{Outcome, value, refused}
-use Rattle.common.specs.Answer.{paperVerdict}
+use mathlib.Core.Path.{_≡_, ap}
 use Rattle.common.specs.declared.Verdict.{Verdict}
-use Rattle.common.proofs.Same.{One, same, same-verdict, kindOf, kind-number}
+use Rattle.common.proofs.Same.{One, same-verdict}
 use Rattle.record.specs.declared.Record.{Record}
-use Rattle.secant.specs.Secant.{Proposal}
-use Rattle.search.specs.Found.{paperFound}
+use Rattle.place.proofs.Unique.{same-found}
 use Rattle.search.specs.Calls.{Told, paperSearched}
-use Rattle.search.specs.declared.FoundAnswer.{FoundAnswer}
-use Rattle.search.specs.declared.FoundAnswer.the-variants as found
 use Rattle.search.specs.declared.SearchedRecord.{SearchedRecord}
 use Rattle.search.proofs.calls.pv2T_reg3.Kinds as pv2T-reg3-kinds
 use Rattle.search.proofs.calls.pv2T_reg3.Reads as pv2T-reg3
@@ -24,18 +19,6 @@ use Rattle.search.proofs.calls.Th_reg3.Kinds as Th-reg3-kinds
 use Rattle.search.proofs.calls.Th_reg3.Reads as Th-reg3
 use Rattle.search.proofs.calls.Ts_reg3.Kinds as Ts-reg3-kinds
 use Rattle.search.proofs.calls.Ts_reg3.Reads as Ts-reg3
-
-foundOf : Outcome Proposal → FoundAnswer
-foundOf (value q) = found.Value (q .x) (q .trials)
-foundOf (refused k) = found.Refused (kindOf k)
-
-found-back : (a : FoundAnswer) → foundOf (paperFound a) ≡ a
-unfolding foundOf
-found-back (found.Value x n) = refl
-found-back (found.Refused k) = ap found.Refused (kind-number k)
-
-pub same-found : (o : Outcome Proposal) (a b : FoundAnswer) → paperFound a ≡ o → paperFound b ≡ o → a ≡ b
-same-found = same paperFound foundOf found-back
 
 together : (v w : Verdict) (r s : Record) (m n : ℕ) → v ≡ w → r ≡ s → m ≡ n → _≡_ {A = SearchedRecord} (record { verdict = v; «record» = r; trials = m }) (record { verdict = w; «record» = s; trials = n })
 together v w r s m n e f g = cc

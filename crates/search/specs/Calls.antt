@@ -13,7 +13,7 @@ use Rattle.td_record.specs.Steps.{recordSteps}
 use Rattle.td_record.specs.declared.Pressure.the-variants.{Worked}
 use Rattle.secant.specs.Secant.{Proposal}
 use Rattle.secant.specs.declared.Curve.the-variants.{Isochore, Enthalpy, Entropy}
-use Rattle.search.specs.Found.{foundOn}
+use Rattle.place.specs.Found.{foundOn}
 use Rattle.search.specs.declared.SearchedRecord.{SearchedRecord}
 
 -- ---- the boxes

@@ -1,7 +1,5 @@
 // The calls: the box, then what is found, then for three of them the record there.
-use crate::FoundAnswer;
 use crate::SearchedRecord;
-use crate::found::found;
 use common::D_FROM;
 use common::D_TO;
 use common::H_FROM;
@@ -22,6 +20,8 @@ use common::check_pair;
 use common::in_p;
 use common::is_finite;
 use common::ranged;
+use place::FoundAnswer;
+use place::found;
 use record::Record;
 use record::RecordAnswer;
 use record::refuse;
@@ -34,7 +34,7 @@ ghost use Rattle.common.specs.Answer.{numberOf, paperVerdict};
 ghost use Rattle.record.specs.Record.{paperRecord};
 ghost use Rattle.td_record.specs.Steps.{recordSteps};
 ghost use Rattle.td_record.specs.declared.Pressure.the-variants.{Worked};
-ghost use Rattle.search.specs.Found.{paperFound};
+ghost use Rattle.place.specs.Found.{paperFound};
 ghost use Rattle.search.specs.Calls.{pvBox, ThBox, TsBox, pv2T-reg3Rule, Th2d-reg3Rule, Ts2d-reg3Rule, recordFound, withTrials, pvRule, ThRule, TsRule, paperSearched, reportSearched};
 
 // The checks of the three pairs. A volume is held to the range of its density, which is worked for that: 1/v of a v next to 0 is outside.

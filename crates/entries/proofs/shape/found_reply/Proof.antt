@@ -2,8 +2,8 @@
 use mathlib.Core.Path.{sym, ap, _∙_}
 use lib.Ieee.{ofBits}
 use Rattle.reply.specs.Shape.{refusedBy}
-use Rattle.search.specs.Found.{paperFound}
-use Rattle.search.specs.declared.FoundAnswer.{FoundAnswer}
+use Rattle.place.specs.Found.{paperFound}
+use Rattle.place.specs.declared.FoundAnswer.{FoundAnswer}
 use Rattle.entries.specs.Named.{foundReply}
 use borrow.Author.Needs.{needs}
 use Rattle.entries.proofs.shape.found_reply.Statement.{statement}

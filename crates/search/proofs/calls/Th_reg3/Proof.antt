@@ -5,9 +5,9 @@ use borrow.Author.Needs.{needs}
 use Rattle.common.specs.Outcome.{Outcome, then}
 use Rattle.common.specs.Decimal.{whole, scaled}
 use Rattle.secant.specs.Secant.{Proposal}
-use Rattle.search.specs.Found.{paperFound}
+use Rattle.place.specs.Found.{paperFound}
 use Rattle.search.specs.Calls.{recordOn, recordFound, reportSearched, ThRule}
-use Rattle.search.specs.declared.FoundAnswer.{FoundAnswer}
+use Rattle.place.specs.declared.FoundAnswer.{FoundAnswer}
 use Rattle.search.proofs.calls.Th_reg3.Statement.{statement}
 use Rattle.search.proofs.calls.Th_reg3.Tie as tie
 

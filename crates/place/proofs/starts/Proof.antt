@@ -1,4 +1,4 @@
--- `search::starts` meets its contract: by the curve. Assumes nothing.
+-- `place::starts` meets its contract: by the curve. Assumes nothing.
 use mathlib.Core.Path.{_≡_, sym, ap, _∙_}
 use lib.Ieee.{Float, ofBits, round}
 use borrow.Author.Needs.{needs}
@@ -9,10 +9,10 @@ use Rattle.common.specs.Decimal.{decimal, scaled}
 use Rattle.common.specs.declared.Answer.{Answer}
 use Rattle.border.specs.Border.{B23-p2T}
 use Rattle.secant.specs.declared.Curve.{Curve}
-use Rattle.search.specs.Found.{Starts, startsOf}
-use Rattle.search.proofs.Laws.{p2T-settled}
-use Rattle.search.proofs.found.starts.Statement.{statement}
-use Rattle.search.proofs.found.starts.Tie as tie
+use Rattle.place.specs.Found.{Starts, startsOf}
+use Rattle.place.proofs.Laws.{p2T-settled}
+use Rattle.place.proofs.starts.Statement.{statement}
+use Rattle.place.proofs.starts.Tie as tie
 
 -- the border's T, from what was answered
 border : (c : tie.After-settle) (a : Answer) → c .settle .result ≡ a → B23-p2T (c .before .before .before .before .args .y) ≡ paper a

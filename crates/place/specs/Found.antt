@@ -1,23 +1,24 @@
 -- To believe: from a curve and an asked value to the place that the check accepts, in the order of docs/SCOPE.md: the start points of
 -- r3/region3_pair_ext.rs, the search, the proposal's range, the check. Assumes nothing: these are definitions.
 use Prim.Native.Nat.{ℕ}
+use mathlib.Core.Bool.{Bool, cond}
 use lib.Ieee.{Float}
 use Rattle.common.specs.Outcome.{Outcome, value, refused, then}
 use Rattle.common.specs.Formula.{_⊘_}
 use Rattle.common.specs.Decimal.{whole}
 use Rattle.common.specs.Constant.{P-TO, T-FROM, T-TO, D-FROM, D-TO}
 use Rattle.common.specs.Answer.{numberOf}
-use Rattle.record.specs.State.{tested}
+use Rattle.common.specs.Range.{within}
 use Rattle.border.specs.Border.{B23-T2p, B23-p2T}
 use Rattle.volume.specs.Volumes.{pT2v-at}
 use Rattle.secant.specs.Secant.{Proposal, proposalRule}
 use Rattle.secant.specs.declared.Curve.{Curve}
 use Rattle.secant.specs.declared.Curve.the-variants.{Isochore, Enthalpy, Entropy}
 use Rattle.checks.specs.Checks.{checkPRule, checkHRule, checkSRule}
-use Rattle.search.specs.declared.StartsAnswer.{StartsAnswer}
-use Rattle.search.specs.declared.StartsAnswer.the-variants as starts
-use Rattle.search.specs.declared.FoundAnswer.{FoundAnswer}
-use Rattle.search.specs.declared.FoundAnswer.the-variants as found
+use Rattle.place.specs.declared.StartsAnswer.{StartsAnswer}
+use Rattle.place.specs.declared.StartsAnswer.the-variants as starts
+use Rattle.place.specs.declared.FoundAnswer.{FoundAnswer}
+use Rattle.place.specs.declared.FoundAnswer.the-variants as found
 
 -- ---- the start points
 
@@ -46,12 +47,22 @@ unfoldable pub proposedFor : Curve → Float → Outcome Proposal
 unfolding startsOf
 proposedFor curve y = then (startsOf curve y) (λ s. proposalRule curve y (s .first) (s .second))
 
--- ---- the proposal's range, 4 outside, and then the check, whose T and d are those of the place
+-- ---- the proposal's range, 4 outside, and then the check
+
+-- T on an isochore, d on an isotherm
+abbrev pub inRange : Curve → Float → Bool
+inRange (Isochore d) x = within T-FROM T-TO x
+inRange (Enthalpy t) x = within D-FROM D-TO x
+inRange (Entropy t) x = within D-FROM D-TO x
+
+-- the check at the T and d of a place
+abbrev pub checkOn : Curve → Float → Float → Outcome Unit
+checkOn (Isochore d) y x = checkPRule x d y
+checkOn (Enthalpy t) y x = checkHRule t x y
+checkOn (Entropy t) y x = checkSRule t x y
 
 unfoldable pub acceptedAt : Curve → Float → Float → Outcome Unit
-acceptedAt (Isochore d) y x = then (tested T-FROM T-TO x) (λ t. checkPRule t d y)
-acceptedAt (Enthalpy t) y x = then (tested D-FROM D-TO x) (λ d. checkHRule t d y)
-acceptedAt (Entropy t) y x = then (tested D-FROM D-TO x) (λ d. checkSRule t d y)
+acceptedAt curve y x = cond (inRange curve x) (checkOn curve y x) (refused 4)
 
 unfoldable pub foundOn : Curve → Float → Outcome Proposal
 unfolding proposedFor acceptedAt

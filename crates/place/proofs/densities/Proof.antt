@@ -1,4 +1,4 @@
--- `search::densities` meets its contract: the border's p, then the two densities. Assumes nothing.
+-- `place::densities` meets its contract: the border's p, then the two densities. Assumes nothing.
 use mathlib.Core.Path.{_≡_, sym, ap, _∙_}
 use lib.Ieee.{ofBits, round}
 use borrow.Author.Needs.{needs}
@@ -7,9 +7,9 @@ use Rattle.common.specs.Answer.{paper}
 use Rattle.common.specs.Decimal.{whole, scaled}
 use Rattle.common.specs.declared.Answer.{Answer}
 use Rattle.border.specs.Border.{B23-T2p}
-use Rattle.search.proofs.Laws.{T2p-settled, border-refused, first-refused, second-refused, both}
-use Rattle.search.proofs.found.densities.Statement.{statement}
-use Rattle.search.proofs.found.densities.Tie as tie
+use Rattle.place.proofs.Laws.{T2p-settled, border-refused, first-refused, second-refused, both}
+use Rattle.place.proofs.densities.Statement.{statement}
+use Rattle.place.proofs.densities.Tie as tie
 
 -- the border's p, from what was answered
 border : (c : tie.After-settle) (a : Answer) → c .settle .result ≡ a → B23-T2p (c .before .before .args .t) ≡ paper a

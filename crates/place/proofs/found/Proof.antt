@@ -1,11 +1,11 @@
--- `search::found` meets its contract: the proposal, then its range and the check. Assumes nothing.
+-- `place::found` meets its contract: the proposal, then its range and the check. Assumes nothing.
 use mathlib.Core.Path.{_≡_, sym, ap, _∙_}
 use borrow.Author.Needs.{needs}
 use Rattle.common.specs.Answer.{paperVerdict}
 use Rattle.secant.specs.Secant.{paperProposal}
-use Rattle.search.proofs.Laws.{none-proposed, none-accepted, accepted}
-use Rattle.search.proofs.found.found.Statement.{statement}
-use Rattle.search.proofs.found.found.Tie as tie
+use Rattle.place.proofs.Laws.{none-proposed, none-accepted, accepted}
+use Rattle.place.proofs.found.Statement.{statement}
+use Rattle.place.proofs.found.Tie as tie
 
 returns : tie.Need-returns
 returns c =

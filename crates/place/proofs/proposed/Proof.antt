@@ -1,12 +1,12 @@
--- `search::proposed` meets its contract: the start points, then the search. Assumes nothing.
+-- `place::proposed` meets its contract: the start points, then the search. Assumes nothing.
 use mathlib.Core.Path.{_≡_, sym, ap, _∙_}
 use borrow.Author.Needs.{needs}
 use Rattle.common.specs.Outcome.{Outcome, then}
 use Rattle.secant.specs.Secant.{proposalRule}
-use Rattle.search.specs.Found.{Starts, proposedFor, paperStarts}
-use Rattle.search.specs.declared.StartsAnswer.{StartsAnswer}
-use Rattle.search.proofs.found.proposed.Statement.{statement}
-use Rattle.search.proofs.found.proposed.Tie as tie
+use Rattle.place.specs.Found.{Starts, proposedFor, paperStarts}
+use Rattle.place.specs.declared.StartsAnswer.{StartsAnswer}
+use Rattle.place.proofs.proposed.Statement.{statement}
+use Rattle.place.proofs.proposed.Tie as tie
 
 answered : (c : tie.After-starts) (w : StartsAnswer) → c .starts .result ≡ w
     → proposedFor (c .before .args .curve) (c .before .args .y) ≡ then (paperStarts w) (λ s. proposalRule (c .before .args .curve) (c .before .args .y) (s .first) (s .second))

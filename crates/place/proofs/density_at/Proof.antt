@@ -1,4 +1,4 @@
--- `search::density_at` meets its contract: one divided by the volume. Assumes nothing.
+-- `place::density_at` meets its contract: one divided by the volume. Assumes nothing.
 use mathlib.Core.Path.{_≡_, sym, ap, _∙_}
 use lib.Ieee.{Float, binary64, div, ofBits, round}
 use borrow.Author.Needs.{needs}
@@ -6,9 +6,9 @@ use Rattle.common.specs.Outcome.{Outcome, check, then}
 use Rattle.common.specs.Answer.{paper}
 use Rattle.common.specs.Decimal.{whole, scaled}
 use Rattle.common.specs.declared.Answer.{Answer}
-use Rattle.search.specs.Found.{densityAt}
-use Rattle.search.proofs.found.density_at.Statement.{statement}
-use Rattle.search.proofs.found.density_at.Tie as tie
+use Rattle.place.specs.Found.{densityAt}
+use Rattle.place.proofs.density_at.Statement.{statement}
+use Rattle.place.proofs.density_at.Tie as tie
 
 -- the rule, from the volume that was answered
 answered : (c : tie.After-pT2v-at) (a : Answer) → c .pT2v-at .result ≡ a → densityAt (c .before .args .p) (c .before .args .t) ≡ then (paper a) (λ v. check (div binary64 (whole 1) v))

@@ -1,6 +1,5 @@
-// From a curve and an asked value to the place that the check accepts: the start points, the search, the proposal's range, the check.
-use crate::FoundAnswer;
-use crate::StartsAnswer;
+// From a curve and an asked value to the place that the check accepts: the start points (r3/region3_pair_ext.rs), the search, the proposal's range, the
+// check.
 use border::raw_B23_T2p;
 use border::raw_B23_p2T;
 use checks::check_h;
@@ -26,7 +25,19 @@ use volume::pT2v_at;
 ghost use mathlib.Core.Path.{_≡_};
 ghost use Rattle.common.specs.Answer.{paper, paperVerdict};
 ghost use Rattle.secant.specs.Secant.{paperProposal};
-ghost use Rattle.search.specs.Found.{paperStarts, paperFound, densityAt, densitiesAt, startsOf, acceptedAt, proposedFor, foundOn};
+ghost use Rattle.place.specs.Found.{paperStarts, paperFound, densityAt, densitiesAt, startsOf, inRange, checkOn, acceptedAt, proposedFor, foundOn};
+
+// Where a search starts.
+pub enum StartsAnswer {
+    Value(f64, f64),
+    Refused(Refusal),
+}
+
+// The T or d that the check accepted, and how many trials the search made.
+pub enum FoundAnswer {
+    Value(f64, u32),
+    Refused(Refusal),
+}
 
 // The density of the volume at a pressure, at any p and t.
 fn density_at(p: f64, t: f64) -> Answer
@@ -67,30 +78,36 @@ fn starts(curve: Curve, y: f64) -> StartsAnswer
     }
 }
 
-// The proposal in its range, then accepted by the check.
+// Whether a place is in the range of what is searched.
+fn in_range(curve: Curve, x: f64) -> bool
+    ensures { λ r. ⌜ r ≡ inRange curve x ⌝ }
+{
+    match curve {
+        Curve::Isochore(_) => in_t(Kelvin(x)),
+        Curve::Enthalpy(_) => in_d(KgPerM3(x)),
+        Curve::Entropy(_) => in_d(KgPerM3(x)),
+    }
+}
+
+// The check at a place.
+fn checked(curve: Curve, y: f64, x: f64) -> Verdict
+    ensures { λ r. ⌜ paperVerdict r ≡ checkOn curve y x ⌝ }
+{
+    match curve {
+        Curve::Isochore(d) => check_p(Kelvin(x), KgPerM3(d), MPa(y)),
+        Curve::Enthalpy(t) => check_h(Kelvin(t), KgPerM3(x), KJPerKg(y)),
+        Curve::Entropy(t) => check_s(Kelvin(t), KgPerM3(x), KJPerKgK(y)),
+    }
+}
+
+// A proposal in its range, then accepted by the check.
 fn accept(curve: Curve, y: f64, x: f64) -> Verdict
     ensures { λ r. ⌜ paperVerdict r ≡ acceptedAt curve y x ⌝ }
 {
-    match curve {
-        Curve::Isochore(d) => {
-            if in_t(Kelvin(x)) {
-                return check_p(Kelvin(x), KgPerM3(d), MPa(y));
-            }
-            Verdict::Refused(Refusal::State)
-        }
-        Curve::Enthalpy(t) => {
-            if in_d(KgPerM3(x)) {
-                return check_h(Kelvin(t), KgPerM3(x), KJPerKg(y));
-            }
-            Verdict::Refused(Refusal::State)
-        }
-        Curve::Entropy(t) => {
-            if in_d(KgPerM3(x)) {
-                return check_s(Kelvin(t), KgPerM3(x), KJPerKgK(y));
-            }
-            Verdict::Refused(Refusal::State)
-        }
+    if in_range(curve, x) {
+        return checked(curve, y, x);
     }
+    Verdict::Refused(Refusal::State)
 }
 
 fn proposed(curve: Curve, y: f64) -> ProposalAnswer
@@ -102,6 +119,7 @@ fn proposed(curve: Curve, y: f64) -> ProposalAnswer
     }
 }
 
+// The place on a curve at which its property is the asked y.
 pub fn found(curve: Curve, y: f64) -> FoundAnswer
     ensures { λ r. ⌜ paperFound r ≡ foundOn curve y ⌝ }
 {
