@@ -29,7 +29,7 @@ d-within-s t s q e = went-on (TsBox t s) _ q _ e (λ _ _ k. found-accepted (Entr
 -- ---- the records
 
 -- a record's T and d are those from which it is worked
-record-state : (t d v : Float) (r : Record) → recordSteps t d v Worked ≡ value r → (t ≡ r .T) × (d ≡ r .d)
+pub record-state : (t d v : Float) (r : Record) → recordSteps t d v Worked ≡ value r → (t ≡ r .T) × (d ≡ r .d)
 unfolding recordSteps recordAfter
 record-state t d v r e =
     went-on (check v) _ r _ e (λ _ _ e₁.

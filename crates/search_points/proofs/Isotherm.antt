@@ -30,7 +30,8 @@ use Rattle.properties.specs.Td.{Td2v, Td2p, Td2h, Td2s, Td2u, Td2cv, Td2cp, Td2
 use Rattle.secant.specs.Secant.{Proposal, missingAt, openedBy, startOf, trialBy, turnOf, trialsFrom, proposalFrom, proposalRule}
 use Rattle.checks.specs.Checks.{heldTo, checkPRule, checkHRule, checkSRule}
 use Rattle.place.specs.Found.{densityAt, densitiesAt, startsOf, proposedFor, acceptedAt, foundOn}
-use Rattle.search.specs.Calls.{Th2d-reg3Rule, Ts2d-reg3Rule}
+use Rattle.td_record.specs.Steps.{recordSteps, recordAfter}
+use Rattle.search.specs.Calls.{Th2d-reg3Rule, Ts2d-reg3Rule, ThRule}
 
 abbrev noTrial : Outcome Proposal → Bool
 noTrial (value q) = eqb (q .trials) 0
@@ -54,7 +55,12 @@ pub from-below-0 : isFound (decimal 381_83445187797275 14) 5 (Th2d-reg3Rule (dec
 unfolding Th2d-reg3Rule missingAt openedBy startOf trialBy turnOf trialsFrom proposalFrom proposalRule heldTo checkPRule checkHRule checkSRule densityAt densitiesAt startsOf proposedFor acceptedAt foundOn B23-T2p B23-p2T pT2v-at volumeFrom originAt volumeAt volumeBy letterAt abRule cdefRule chijkRule clmnopjkRule nearRule cq-rkRule csrkRule cstRule ctRule limit formRule straight3ef table3ab table3cd table3gh table3ij table3jk table3mn table3op table3qu table3rx table3uv table3wx p-saturation T-saturation table3a table3b table3c table3d table3e table3f table3g table3h table3i table3j table3k table3l table3m table3n table3o table3p table3q table3r table3s table3t table3u table3v table3w table3x table3y table3z Td2v Td2p Td2h Td2s Td2u Td2cv Td2cp Td2w statePressure slope phi phi-delta phi-deltadelta share joint-phi joint-delta four-delta four-deltadelta shareRule table30 sumRule total powerRule byBits lowest rootRule nearestRoot wholeRoot inUnits logarithmRule lnOf lnSteps exponentialRule expSteps nearestWhole L scaled decimal whole plus minus round neg add sub sum mul div ofInt le lt eq
 from-below-0 = refl
 
--- whose entropy is lost
+-- accepted by the check with no trial, and its record's p is above 100
+pub above : ThRule (decimal 863_15 2) (decimal 2812_952116123153 12) ≡ refused 4
+unfolding ThRule Th2d-reg3Rule recordSteps recordAfter missingAt openedBy startOf trialBy turnOf trialsFrom proposalFrom proposalRule heldTo checkPRule checkHRule checkSRule densityAt densitiesAt startsOf proposedFor acceptedAt foundOn B23-T2p B23-p2T pT2v-at volumeFrom originAt volumeAt volumeBy letterAt abRule cdefRule chijkRule clmnopjkRule nearRule cq-rkRule csrkRule cstRule ctRule limit formRule straight3ef table3ab table3cd table3gh table3ij table3jk table3mn table3op table3qu table3rx table3uv table3wx p-saturation T-saturation table3a table3b table3c table3d table3e table3f table3g table3h table3i table3j table3k table3l table3m table3n table3o table3p table3q table3r table3s table3t table3u table3v table3w table3x table3y table3z Td2v Td2p Td2h Td2s Td2u Td2cv Td2cp Td2w statePressure slope phi phi-delta phi-deltadelta share joint-phi joint-delta four-delta four-deltadelta shareRule table30 sumRule total powerRule byBits lowest rootRule nearestRoot wholeRoot inUnits logarithmRule lnOf lnSteps exponentialRule expSteps nearestWhole L scaled decimal whole plus minus round neg add sub sum mul div ofInt le lt eq
+above = refl
+
+-- the entropy of a start density below 0 is lost
 pub lost : Ts2d-reg3Rule (decimal 863_15 2) (whole 4) ≡ refused 5
 unfolding Ts2d-reg3Rule missingAt openedBy startOf trialBy turnOf trialsFrom proposalFrom proposalRule heldTo checkPRule checkHRule checkSRule densityAt densitiesAt startsOf proposedFor acceptedAt foundOn B23-T2p B23-p2T pT2v-at volumeFrom originAt volumeAt volumeBy letterAt abRule cdefRule chijkRule clmnopjkRule nearRule cq-rkRule csrkRule cstRule ctRule limit formRule straight3ef table3ab table3cd table3gh table3ij table3jk table3mn table3op table3qu table3rx table3uv table3wx p-saturation T-saturation table3a table3b table3c table3d table3e table3f table3g table3h table3i table3j table3k table3l table3m table3n table3o table3p table3q table3r table3s table3t table3u table3v table3w table3x table3y table3z Td2v Td2p Td2h Td2s Td2u Td2cv Td2cp Td2w statePressure slope phi phi-delta phi-deltadelta share joint-phi joint-delta four-delta four-deltadelta shareRule table30 sumRule total powerRule byBits lowest rootRule nearestRoot wholeRoot inUnits logarithmRule lnOf lnSteps exponentialRule expSteps nearestWhole L scaled decimal whole plus minus round neg add sub sum mul div ofInt le lt eq
 lost = refl

@@ -21,7 +21,12 @@ use Rattle.properties.specs.Td.{Td2v, Td2p, Td2h, Td2s, Td2u, Td2cv, Td2cp, Td2
 use Rattle.secant.specs.Secant.{Proposal, missingAt, openedBy, startOf, trialBy, turnOf, trialsFrom, proposalFrom, proposalRule}
 use Rattle.checks.specs.Checks.{heldTo, checkPRule, checkHRule, checkSRule}
 use Rattle.place.specs.Found.{densityAt, densitiesAt, startsOf, proposedFor, acceptedAt, foundOn}
-use Rattle.search.specs.Calls.{pv2T-reg3Rule}
+use Rattle.td_record.specs.Steps.{recordSteps, recordAfter}
+use Rattle.search.specs.Calls.{Searched, pv2T-reg3Rule, pvRule}
+
+abbrev holdsV : Float → Outcome Searched → Bool
+holdsV v (value a) = le (a .state .v) v && le v (a .state .v)
+holdsV v (refused k) = false
 
 abbrev isFound : Float → ℕ → Outcome Proposal → Bool
 isFound x n (value q) = eqb (q .trials) n && (le (q .x) x && le x (q .x))
@@ -53,3 +58,8 @@ first = refl
 pub second : pv2T-reg3Rule (whole 50) zeroF ≡ refused 3
 unfolding pv2T-reg3Rule scaled decimal whole round div le
 second = refl
+
+-- the record's v is 1/d, and not the asked one
+pub not-asked : holdsV (decimal 0_00683270975577216 17) (pvRule (decimal 24_99 2) (decimal 0_0068327097557721594 19)) ≡ true
+unfolding pvRule pv2T-reg3Rule recordSteps recordAfter missingAt openedBy startOf trialBy turnOf trialsFrom proposalFrom proposalRule heldTo checkPRule checkHRule checkSRule densityAt densitiesAt startsOf proposedFor acceptedAt foundOn B23-T2p B23-p2T Td2v Td2p Td2h Td2s Td2u Td2cv Td2cp Td2w statePressure slope phi phi-delta phi-deltadelta share joint-phi joint-delta four-delta four-deltadelta shareRule table30 sumRule total powerRule byBits lowest rootRule nearestRoot wholeRoot inUnits logarithmRule lnOf lnSteps exponentialRule expSteps nearestWhole L scaled decimal whole plus minus round neg add sub sum mul div ofInt le lt eq
+not-asked = refl
