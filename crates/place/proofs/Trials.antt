@@ -2,7 +2,7 @@
 -- Assumes nothing.
 use Prim.Native.Nat.{ℕ, zero, suc, _≤_}
 use native.Mathlib.Omega.{arith}
-use mathlib.Core.Path.{_≡_, sym}
+use mathlib.Core.Path.{_≡_, ap}
 use mathlib.Core.Bool.{Bool, true, false, cond}
 use mathlib.Core.List.{List, [], _∷_}
 use lib.ListN.{length}
@@ -12,11 +12,14 @@ use Rattle.secant.specs.Secant.{MAX-ITER, startOf, Next, ended, tried, turnOf, 
 use Rattle.secant.specs.declared.Curve.{Curve}
 use Rattle.secant.specs.declared.Secant.{Secant}
 use Rattle.checks.proofs.Promise.{went-on, no-value}
-use Rattle.place.specs.Found.{startsOf, proposedFor, inRange, checkOn, acceptedAt, foundOn}
+use Rattle.place.specs.Found.{Starts, startsOf, proposedFor, inRange, checkOn, acceptedAt, foundOn}
 
--- the place and the count of a search, by its list of trials
+-- the place and the count of a search, by its start points and its list of trials
 pub record Trials (curve : Curve) (y : Float) (q : Proposal) : Type 0 where
+  pub ends : Starts
+  pub are-ends : startsOf curve y ≡ value ends
   pub start : Secant
+  pub begun : startOf curve y (ends .first) (ends .second) ≡ value start
   pub places : List Float
   pub are : trialsFrom curve y MAX-ITER start ≡ value places
   pub last : q .x ≡ lastOr (start .x) places
@@ -37,29 +40,27 @@ module _ (curve : Curve) (y : Float) where
   bounded zero s xs e = let nil : xs ≡ [] = cc in rw nil (omega arith)
   bounded (suc n) s xs e = went-on (turnOf curve y s) _ xs _ e (λ next _ k. after n next xs (bounded n) k)
 
-  from-start : (s : Secant) (q : Proposal) → proposalFrom curve y s ≡ value q → Trials curve y q
-  unfolding proposalFrom
-  from-start s q e =
-      went-on (trialsFrom curve y MAX-ITER s) _ q _ e (λ xs h k. record {
-        start = s;
-        places = xs;
-        are = h;
-        last = (cc);
-        count = (cc);
-        most = bounded MAX-ITER s xs h;
-      })
-
   -- what was found was proposed by the search and accepted by the check
   pub found-trials : (q : Proposal) → foundOn curve y ≡ value q → Trials curve y q
-  unfolding foundOn proposedFor proposalRule
+  unfolding foundOn proposedFor proposalRule proposalFrom
   found-trials q e =
       went-on (proposedFor curve y) _ q _ e (λ q₁ h k.
       went-on (acceptedAt curve y (q₁ .x)) _ q _ k (λ _ _ g.
-      went-on (startsOf curve y) _ q₁ _ h (λ s _ h₁.
-      went-on (startOf curve y (s .first) (s .second)) _ q₁ _ h₁ (λ from _ h₂.
-      let same : q₁ ≡ q = cc in
-      let trials = from-start from q₁ h₂ in
-      record { start = trials .start; places = trials .places; are = trials .are; last = rw (sym same) (trials .last); count = rw (sym same) (trials .count); most = trials .most }))))
+      went-on (startsOf curve y) _ q₁ _ h (λ ends a h₁.
+      went-on (startOf curve y (ends .first) (ends .second)) _ q₁ _ h₁ (λ start b h₂.
+      went-on (trialsFrom curve y MAX-ITER start) _ q₁ _ h₂ (λ xs c h₃.
+      let made : _≡_ {A = Proposal} q (record { x = lastOr (start .x) xs; trials = length xs }) = cc in
+      record {
+        ends = ends;
+        are-ends = a;
+        start = start;
+        begun = b;
+        places = xs;
+        are = c;
+        last = ap (λ (z : Proposal). z .x) made;
+        count = ap (λ (z : Proposal). z .trials) made;
+        most = bounded MAX-ITER start xs c;
+      })))))
 
   pub found-accepted : (q : Proposal) (C : Type 0) → foundOn curve y ≡ value q → ((u : Unit) → acceptedAt curve y (q .x) ≡ value u → C) → C
   unfolding foundOn
