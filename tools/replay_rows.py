@@ -27,7 +27,7 @@ ROWS, SEED = 48000, 11
 # The entries of the first list (0: rows that name none), and the lists of those that came later, each with its rows: a new entry has a list of its
 # own behind the others, so that no row of before moves.
 FIRST = "0,1,2,3,4,5,6,7,8,9,10,11,12,13,14,15,16,20,21,22,23,24,25,30"
-LATER = (("34", 1500), ("18,19", 1500))
+LATER = (("34", 1500), ("18,19", 1500), ("26,27,28,35,36,37", 3000))
 ROW, ANSWER = 24, 88
 NAMED = 10  # differing rows that `replay` names
 
@@ -104,7 +104,7 @@ def said(name, stored, wrong):
 
 
 # the entries that region3_c exports
-EXPORTED = (1, 2, 3, 4, 5, 6, 8, 18, 19, 20, 21, 22, 23, 24, 25, 30, 34)
+EXPORTED = (1, 2, 3, 4, 5, 6, 8, 18, 19, 20, 21, 22, 23, 24, 25, 26, 27, 28, 30, 34, 35, 36, 37)
 UNEQUAL = "columns of unequal length: refusal 7 letter 90 row's refusal 90\n"
 
 

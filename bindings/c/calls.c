@@ -152,6 +152,28 @@ static void heat_and_sound(void) {
     say("r3_cp_w");
 }
 
+// Where `property` is none, uniform p and 1/v. Else T and the h or s of a state, since a search for none can make 20,000 trials: a few rows alone take any.
+static void searches(const char *name, word seed, r3_byte (*call)(double, double, double *, unsigned *), int fields, int property, double from, double to) {
+    begin(seed);
+    for (int i = 0; i < ROWS; i++) {
+        double out[R3_FIELDS], first, second;
+        unsigned trials;
+        if (property < 0) {
+            first = any(from, to);
+            second = 1.0 / any(100, 800);
+        } else {
+            double d = any(100, 800);
+            first = any(623.15, 863.15);
+            if (i % 4096 == 0) second = any(from, to);
+            else r3_property(property, first, d, &second);
+        }
+        mix(call(first, second, out, &trials));
+        mix(trials);
+        for (int k = 0; k < fields; k++) mix_number(out[k]);
+    }
+    say(name);
+}
+
 static void letters(void) {
     begin(13);
     for (int i = 0; i < ROWS; i++) {
@@ -260,6 +282,12 @@ static void all(void) {
     heat_and_sound();
     reads();
     writes();
+    searches("r3_pv", 17, r3_pv, R3_FIELDS, -1, 16.529, 100);
+    searches("r3_th", 18, r3_th, R3_FIELDS, R3_OH, 1500, 2900);
+    searches("r3_ts", 19, r3_ts, R3_FIELDS, R3_OS, 3.3, 5.3);
+    searches("r3_pv2t", 20, r3_pv2t, 1, -1, 16.529, 100);
+    searches("r3_th2d", 21, r3_th2d, 1, R3_OH, 1500, 2900);
+    searches("r3_ts2d", 22, r3_ts2d, 1, R3_OS, 3.3, 5.3);
 }
 
 #ifdef ALONE

@@ -1,7 +1,7 @@
 /* Region 3 of IAPWS-IF97: the functions of libregion3_c.a, which `rt staticlib region3_c` writes for x86-64 Linux and tools/native for the
  * host's own processor.
  *
- * Units: p in MPa, t in K, d in kg/m3, h in kJ/kg, s in kJ/(kg K).
+ * Units: p in MPa, t in K, d in kg/m3, v in m3/kg, h in kJ/kg, s in kJ/(kg K).
  *
  * A call returns its refusal's number, R3_ACCEPTED where there is none, and always writes through its pointers: +0.0 in a number and in every
  * field of a record, 0 for a letter, where it is refused. (r3_columns with R3_COLUMNS, and a refused r3_write, write nothing.) Every double is a fair argument, NaN and
@@ -12,7 +12,7 @@
  *  - A pointer is to live memory of the size that its type or its length says, aligned, and no memory that a call writes overlaps other memory
  *    of that call.
  *  - The processor rounds to nearest, ties to even, as every C program starts. In another rounding mode (fesetround, or a library that sets one)
- *    15 of the 17 calls answered other bits at some of a thousand points. r3_rounds_to_nearest() tells which it is. Flush-to-zero changed none
+ *    21 of the 23 calls answered other bits at some of a thousand points. r3_rounds_to_nearest() tells which it is. Flush-to-zero changed none
  *    of the first 14 calls, tried at a point each; where a step is subnormal it can: 1e-160 squared by r3_power is then 0.
  *
  * What a number is worth (docs/DIFFERENCES.md has each with its input):
@@ -41,8 +41,8 @@ extern "C" {
 typedef __SIZE_TYPE__ r3_size;
 typedef unsigned char r3_byte;
 
-/* Why a call is refused, in the order in which it is found: 7, 6, 1, 2, 3, 8, then 4 or 5 at the first step that meets either. Later versions add
- * numbers: anything but 0 is a refusal. */
+/* Why a call is refused, in the order in which it is found: 7, 6, 1, 2, 3, 8, then 4 or 5 at the first step that meets either; of a search its 5, 4 of
+ * what it proposes, 5 or 4 of the test, 15, then the record's 4 or 5. Later versions add numbers: anything but 0 is a refusal. */
 enum {
     R3_ACCEPTED = 0,    /* accepted */
     R3_NOT_FINITE = 1,  /* an argument is NaN or infinite */
@@ -53,6 +53,7 @@ enum {
     R3_PROPERTY = 6,    /* the property's number is unknown */
     R3_COLUMNS = 7,     /* the columns are of unequal length */
     R3_BORDER = 8,      /* T is above the border with region 2 at p */
+    R3_UNFOUND = 15,    /* what a search proposes has not the property that was asked for */
     /* of r3_read alone, before the pair's own numbers: at the first field that meets one, and 14 at the end */
     R3_PAST_END = 10,      /* a field or its header runs past the end */
     R3_UNKNOWN_TAG = 11,   /* a field's tag is unknown */
@@ -129,6 +130,22 @@ r3_byte r3_ph(double p, double h, double *out);
 r3_byte r3_ps(double p, double s, double *out);
 r3_byte r3_hs(double h, double s, double *out);
 
+/* The record of a state that is searched for: the T at a p and a v, the d at a T and an h, the d at a T and an s. The Rust's secant search proposes it;
+ * then a test that does not trust the search works the p, h or s there and accepts it within 1e-6 (MPa, kJ/kg, kJ/(kg K)) of the asked one, or
+ * refuses it with R3_UNFOUND. Writes how many trials the search made, 0 beside a refusal. The range of v is that of 1/v, and the record's v is
+ * 1/(1/v), which need not be the asked one. Two things that an accepted answer does not say: that no other state has the asked property, and that the
+ * state lies inside the border with region 2. A search that finds makes up to some 14 trials; one that does not can make 20,000, some
+ * milliseconds. At p = 100 and at p = 16.529 about half of the states that exist are R3_STATE, their p coming out a little outside; r3_ts refuses every
+ * T from 863.149999999954 up with R3_STEP. */
+r3_byte r3_pv(double p, double v, double *out, unsigned *trials);
+r3_byte r3_th(double t, double h, double *out, unsigned *trials);
+r3_byte r3_ts(double t, double s, double *out, unsigned *trials);
+
+/* The T or d that the test accepted, alone. The record there can still be refused: its p has a range of its own. */
+r3_byte r3_pv2t(double p, double v, double *t, unsigned *trials);
+r3_byte r3_th2d(double t, double h, double *d, unsigned *trials);
+r3_byte r3_ts2d(double t, double s, double *d, unsigned *trials);
+
 /* One property at a T and a d, by its number. */
 r3_byte r3_property(int number, double t, double d, double *out);
 
@@ -190,6 +207,7 @@ static __inline__ const char *r3_refusal_text(int number) {
     case R3_WRONG_LENGTH: return "a known field is not of 8 bytes";
     case R3_OUT_OF_ORDER: return "a known tag is not above the one before";
     case R3_NOT_A_PAIR: return "the known tags are not one of the five pairs";
+    case R3_UNFOUND: return "what a search proposes has not the property that was asked for";
     case R3_NO_ROOM: return "fewer than 22 bytes are lent";
     case R3_NO_SUCH_PAIR: return "no pair has this byte";
     }

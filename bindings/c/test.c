@@ -37,6 +37,9 @@ static int printed(double x, double value, int digits) {
     return -0.5000001 * unit <= off && off <= 0.5000001 * unit;
 }
 
+// what the test of a search lets pass
+static int near(double x, double asked) { return x - asked <= 1e-6 && asked - x <= 1e-6; }
+
 typedef r3_byte record_call(double, double, double *);
 
 // The check values that IAPWS prints: what is called, its arguments, the field, the letter or 0, the value.
@@ -206,6 +209,62 @@ static void heat_and_sound(void) {
     expect(r3_cp_w(650, 99, &cp, &w, &beside) == R3_SECOND && beside == R3_SECOND, "3 of both", 650, 99);
 }
 
+// The places that look odd and are right, with their trials, and the T or d alone beside each.
+static void searches(void) {
+    typedef r3_byte search_call(double, double, double *, unsigned *);
+    static const struct {
+        search_call *record, *alone;
+        double first, second;
+        int number, of_alone, field;
+        unsigned trials;
+        double found;
+    } places[] = {
+        {r3_pv, r3_pv2t, 50, 0.002, R3_ACCEPTED, R3_ACCEPTED, R3_T, 5, 697.54983343387},
+        {r3_pv, r3_pv2t, 100, 0.001533061262553137, R3_STATE, R3_STATE, R3_T, 0, 0},
+        {r3_pv, r3_pv2t, 16.529164252604808, 0.0013157015192282405, R3_UNFOUND, R3_UNFOUND, R3_T, 0, 0},
+        {r3_pv, r3_pv2t, 0.0 / 0.0, 0, R3_NOT_FINITE, R3_NOT_FINITE, R3_T, 0, 0},
+        {r3_pv, r3_pv2t, 101, 0, R3_FIRST, R3_FIRST, R3_T, 0, 0},
+        {r3_pv, r3_pv2t, 50, 0, R3_SECOND, R3_SECOND, R3_T, 0, 0},
+        {r3_pv, r3_pv2t, 50, -0.0, R3_SECOND, R3_SECOND, R3_T, 0, 0},
+        {r3_pv, r3_pv2t, 50, 0x1p-1074, R3_SECOND, R3_SECOND, R3_T, 0, 0},
+        {r3_pv, r3_pv2t, 50, 0.010000000000000002, R3_SECOND, R3_SECOND, R3_T, 0, 0},
+        {r3_pv, r3_pv2t, 50, 0.01, R3_STATE, R3_STATE, R3_T, 0, 0},
+        {r3_th, r3_th2d, 700, 2500, R3_ACCEPTED, R3_ACCEPTED, R3_D, 7, 235.3422999307922},
+        {r3_th, r3_th2d, 700, 1924.8708156845616, R3_ACCEPTED, R3_ACCEPTED, R3_D, 0, 651.8112674503902},
+        {r3_th, r3_th2d, 863.15, 2820, R3_ACCEPTED, R3_ACCEPTED, R3_D, 5, 381.83445187797275},
+        {r3_th, r3_th2d, 863.1499999999539, 2500, R3_UNFOUND, R3_UNFOUND, R3_D, 0, 0},
+        {r3_th, r3_th2d, 859.1136650031038, 2620.270705157618, R3_STATE, R3_ACCEPTED, R3_D, 8, 555.121869599535},
+        {r3_th, r3_th2d, 716.7091396139051, 1523.5036123394186, R3_STATE, R3_STATE, R3_D, 0, 0},
+        {r3_th, r3_th2d, 856.2225878410742, 1575.9363733204323, R3_UNFOUND, R3_UNFOUND, R3_D, 0, 0},
+        {r3_th, r3_th2d, 640, 2100, R3_ACCEPTED, R3_ACCEPTED, R3_D, 9, 292.09255280798175},
+        {r3_ts, r3_ts2d, 863.15, 4.5, R3_STEP, R3_STEP, R3_D, 0, 0},
+        {r3_ts, r3_ts2d, 743.5006480648088, 3.3230225561443656, R3_UNFOUND, R3_UNFOUND, R3_D, 0, 0},
+    };
+    double r[R3_FIELDS], q[R3_FIELDS], x;
+    unsigned trials;
+    for (r3_size i = 0; i < sizeof places / sizeof *places; i++) {
+        double a = places[i].first, b = places[i].second;
+        r[0] = r[9] = x = -7;
+        trials = 77;
+        int number = places[i].record(a, b, r, &trials), accepted = number == R3_ACCEPTED;
+        expect(number == places[i].number && trials == (accepted ? places[i].trials : 0), "a searched record's number and trials", a, b);
+        expect(accepted ? same(r[places[i].field], places[i].found) : zeros(r, R3_FIELDS), "a searched record", a, b);
+        if (accepted) expect(r3_td(r[R3_T], r[R3_D], q) == R3_ACCEPTED && memcmp(r, q, sizeof r) == 0, "it is the record of what was found", a, b);
+        trials = 77;
+        expect(places[i].alone(a, b, &x, &trials) == places[i].of_alone && same(x, places[i].found) && trials == places[i].trials, "found alone", a, b);
+    }
+    // the record's v is 1/(1/v), which is not the v asked
+    expect(r3_pv(24.99, 0.0068327097557721594, r, &trials) == R3_ACCEPTED && same(r[R3_V], 0.00683270975577216), "v worked anew", 24.99, 0);
+    // states that exist are found again, within what the test lets pass
+    for (int i = 0; i < 300; i++) {
+        double t = 625 + 0.6 * i, p = 25 + 0.2 * ((41 * i) % 300);
+        if (r3_pt(p, t, r) != R3_ACCEPTED) continue;
+        expect(r3_pv(r[R3_P], r[R3_V], q, &trials) == R3_ACCEPTED && trials <= 20 && near(q[R3_P], r[R3_P]), "p and v of a state", t, p);
+        if (r[R3_H] >= 1500 && r[R3_H] <= 2900) expect(r3_th(t, r[R3_H], q, &trials) == R3_ACCEPTED && near(q[R3_H], r[R3_H]), "T and h of a state", t, p);
+        if (r[R3_S] >= 3.3 && r[R3_S] <= 5.3) expect(r3_ts(t, r[R3_S], q, &trials) == R3_ACCEPTED && near(q[R3_S], r[R3_S]), "T and s of a state", t, p);
+    }
+}
+
 static void rules(void) {
     double x;
     expect(r3_power(2, -3, &x) == R3_ACCEPTED && x == 0.125, "2^-3", 2, -3);
@@ -326,7 +385,7 @@ static void forward(void) {
 static void texts(void) {
     static const int numbers[] = {R3_ACCEPTED,     R3_NOT_FINITE,   R3_FIRST,    R3_SECOND,      R3_STATE,        R3_STEP,      R3_PROPERTY,
                                   R3_COLUMNS,      R3_BORDER,       R3_PAST_END, R3_UNKNOWN_TAG, R3_WRONG_LENGTH, R3_OUT_OF_ORDER, R3_NOT_A_PAIR,
-                                  R3_NO_ROOM,      R3_NO_SUCH_PAIR};
+                                  R3_UNFOUND,      R3_NO_ROOM,      R3_NO_SUCH_PAIR};
     enum { KNOWN = sizeof numbers / sizeof *numbers };
     expect(memcmp(r3_version(), R3_VERSION, sizeof R3_VERSION) == 0, "the version", 0, 0);
     for (int i = 0; i < KNOWN; i++) {
@@ -347,11 +406,12 @@ static const int modes[] = {0, 0x800000, 0x400000, 0xc00000};
 #error "the rounding modes of this processor are not known here"
 #endif
 
-enum { CALLS = 17, POINTS = 1000 };
+enum { CALLS = 23, POINTS = 1000 };
 
 struct answer {
     double numbers[R3_FIELDS];
     r3_byte refusal, letter, of_row;
+    unsigned trials;
 };
 
 static unsigned long seed = 1;
@@ -361,12 +421,16 @@ static double uniform(double from, double to) {
 }
 
 struct point {
-    double p, t, d, h, s, saturated_p, saturated_t, x;
+    double p, t, d, h, s, saturated_p, saturated_t, x, of_state_h, of_state_s;
 };
 
 static struct point any_point(void) {
-    return (struct point){uniform(17, 99), uniform(624, 800), uniform(150, 700), uniform(1600, 2800), uniform(3.5, 5.1),
-                          uniform(16.6, 22), uniform(624, 647), uniform(0.5, 2)};
+    struct point z = {uniform(17, 99), uniform(624, 800), uniform(150, 700), uniform(1600, 2800), uniform(3.5, 5.1),
+                      uniform(16.6, 22), uniform(624, 647), uniform(0.5, 2), 0, 0};
+    // a search for a state that is none can make 20,000 trials
+    r3_property(R3_OH, z.t, z.d, &z.of_state_h);
+    r3_property(R3_OS, z.t, z.d, &z.of_state_s);
+    return z;
 }
 
 static void call_all(struct point z, struct answer *a) {
@@ -388,6 +452,12 @@ static void call_all(struct point z, struct answer *a) {
     a[14].refusal = r3_cp_w(z.t, z.d, a[14].numbers, a[14].numbers + 1, &a[14].of_row);
     a[15].refusal = r3_p_border(z.t, a[15].numbers);
     a[16].refusal = r3_t_border(z.p, a[16].numbers);
+    a[17].refusal = r3_pv(z.p, 1 / z.d, a[17].numbers, &a[17].trials);
+    a[18].refusal = r3_th(z.t, z.of_state_h, a[18].numbers, &a[18].trials);
+    a[19].refusal = r3_ts(z.t, z.of_state_s, a[19].numbers, &a[19].trials);
+    a[20].refusal = r3_pv2t(z.p, 1 / z.d, a[20].numbers, &a[20].trials);
+    a[21].refusal = r3_th2d(z.t, z.of_state_h, a[21].numbers, &a[21].trials);
+    a[22].refusal = r3_ts2d(z.t, z.of_state_s, a[22].numbers, &a[22].trials);
 }
 
 // The check of the rounding mode agrees with fegetround. Why it is there: how many calls answer other bits in another mode is printed.
@@ -418,6 +488,7 @@ int main(void) {
     published();
     properties();
     heat_and_sound();
+    searches();
     rules();
     refusals();
     columns();

@@ -14,7 +14,7 @@ use std::{env, fs, process};
 
 /// The crate's modules that the port takes, with the files that make each up.
 const MODULES: [(&str, &[&str]); 4] = [
-    ("algo", &["polynomial", "polynomial_steps"]),
+    ("algo", &["polynomial", "polynomial_steps", "root"]),
     ("common", &["boundaries", "constant", "property_id"]),
     (
         "r3",
@@ -25,6 +25,7 @@ const MODULES: [(&str, &[&str]); 4] = [
             "region3_Tv_phps",
             "region3_hfe",
             "region3_p_hs",
+            "region3_pair_ext",
             "region3_v_pT",
             "region3_v_subregion_pT",
         ],

@@ -23,6 +23,7 @@
 //! - **[`Property::OE`], [`Property::OIJTC`], [`Property::OFI`], [`Property::OFU`]** are not what their names say; each says by how much.
 //! - **Of (T,d) the ranges are wider than region 3.** Inside the saturation dome, and where the p of a state lies beyond the border with region 2, the
 //!   calls answer numbers that mean nothing, a negative heat capacity among them. A p and a T beyond that border are [`Refusal::Border`].
+//! - **A searched state** ([`pv`], [`th`], [`ts`]) has the property that was asked, within 1e-6 in its unit; it need not be the only state that has it.
 //! - **At p = 100 MPa**, the end of the range, half of all [`pt`] calls are refused with [`Refusal::State`]: the p of the found state comes out a little
 //!   above 100. At 99.99 none of 4,001 was.
 //!
@@ -47,7 +48,7 @@ mod unit;
 
 pub use property::Property;
 pub use refusal::Refusal;
-pub use unit::{KJPerKg, KJPerKgK, Kelvin, KgPerM3, MPa};
+pub use unit::{KJPerKg, KJPerKgK, Kelvin, KgPerM3, M3PerKg, MPa};
 
 /// The properties of a state.
 #[derive(Clone, Copy, Debug, PartialEq)]
@@ -140,6 +141,83 @@ pub fn ps(p: MPa, s: KJPerKgK) -> Result<Record, Refusal> {
 /// The record at an enthalpy and an entropy. Its p is the backward equation's.
 pub fn hs(h: KJPerKg, s: KJPerKgK) -> Result<Record, Refusal> {
     record(raw::r3_hs, h.0, s.0)
+}
+
+/// What a search finds, and how many trials it made.
+#[derive(Clone, Copy, Debug, PartialEq)]
+pub struct Searched<A> {
+    /// A record, or the T or d alone.
+    pub found: A,
+    /// The trials of the search; its two start points are not counted.
+    pub trials: u32,
+}
+
+// A call that writes what a search finds, and its trials.
+fn searched<A>(call: impl FnOnce(&mut A, &mut u32) -> u8, mut found: A) -> Result<Searched<A>, Refusal> {
+    let mut trials = 0;
+    let refusal = call(&mut found, &mut trials);
+    answer(refusal, Searched { found, trials })
+}
+
+impl<A> Searched<A> {
+    fn map<B>(self, f: impl FnOnce(A) -> B) -> Searched<B> {
+        Searched {
+            found: f(self.found),
+            trials: self.trials,
+        }
+    }
+}
+
+/// The record at a pressure and a specific volume, whose T is searched for.
+///
+/// The Rust's secant search proposes the T; a test that does not trust it works p there and accepts it within 1e-6 MPa of the asked one, or refuses it
+/// with [`Refusal::Unfound`]. The range of v is that of 1/v, and the record's v is 1/(1/v), which need not be the asked one. An accepted state need not be
+/// the only one with that p, nor lie inside the border with region 2. At p = 100 and 16.529 about half of the states that exist are
+/// [`Refusal::State`].
+///
+/// ```
+/// use region3::{pv, M3PerKg, MPa};
+/// let state = pv(MPa(50.0), M3PerKg(0.002))?;
+/// assert_eq!((state.found.T.0, state.trials), (697.54983343387, 5));
+/// # Ok::<(), region3::Refusal>(())
+/// ```
+pub fn pv(p: MPa, v: M3PerKg) -> Result<Searched<Record>, Refusal> {
+    // SAFETY: out and trials are ours, apart, and the call keeps no pointer.
+    searched(|out, trials| unsafe { raw::r3_pv(p.0, v.0, out, trials) }, [0.0; 10]).map(|s| s.map(Record::of))
+}
+
+/// The record at a temperature and an enthalpy, whose d is searched for and tested as T is in [`pv`]: within 1e-6 kJ/kg.
+///
+/// A search for a state that does not exist can make 20,000 trials, some milliseconds; one that finds makes up to some 14.
+pub fn th(t: Kelvin, h: KJPerKg) -> Result<Searched<Record>, Refusal> {
+    // SAFETY: out and trials are ours, apart, and the call keeps no pointer.
+    searched(|out, trials| unsafe { raw::r3_th(t.0, h.0, out, trials) }, [0.0; 10]).map(|s| s.map(Record::of))
+}
+
+/// The record at a temperature and an entropy, whose d is searched for and tested as in [`th`]: within 1e-6 kJ/(kg K).
+///
+/// Every T from 863.149999999954 up is [`Refusal::Step`]: the search starts at a negative density there.
+pub fn ts(t: Kelvin, s: KJPerKgK) -> Result<Searched<Record>, Refusal> {
+    // SAFETY: out and trials are ours, apart, and the call keeps no pointer.
+    searched(|out, trials| unsafe { raw::r3_ts(t.0, s.0, out, trials) }, [0.0; 10]).map(|found| found.map(Record::of))
+}
+
+/// The T alone that the test of [`pv`] accepted. The record there can still be refused: its p has a range of its own.
+pub fn pv_to_t(p: MPa, v: M3PerKg) -> Result<Searched<Kelvin>, Refusal> {
+    // SAFETY: out and trials are ours, apart, and the call keeps no pointer.
+    searched(|out, trials| unsafe { raw::r3_pv2t(p.0, v.0, out, trials) }, 0.0).map(|s| s.map(Kelvin))
+}
+
+/// The d alone that the test of [`th`] accepted.
+pub fn th_to_d(t: Kelvin, h: KJPerKg) -> Result<Searched<KgPerM3>, Refusal> {
+    // SAFETY: out and trials are ours, apart, and the call keeps no pointer.
+    searched(|out, trials| unsafe { raw::r3_th2d(t.0, h.0, out, trials) }, 0.0).map(|s| s.map(KgPerM3))
+}
+
+/// The d alone that the test of [`ts`] accepted.
+pub fn ts_to_d(t: Kelvin, s: KJPerKgK) -> Result<Searched<KgPerM3>, Refusal> {
+    // SAFETY: out and trials are ours, apart, and the call keeps no pointer.
+    searched(|out, trials| unsafe { raw::r3_ts2d(t.0, s.0, out, trials) }, 0.0).map(|found| found.map(KgPerM3))
 }
 
 /// The pairs that an exchange record can hold.

@@ -5,6 +5,12 @@ extern "C" {
     pub fn r3_ph(p: f64, h: f64, out: *mut [f64; 10]) -> u8;
     pub fn r3_ps(p: f64, s: f64, out: *mut [f64; 10]) -> u8;
     pub fn r3_hs(h: f64, s: f64, out: *mut [f64; 10]) -> u8;
+    pub fn r3_pv(p: f64, v: f64, out: *mut [f64; 10], trials: *mut u32) -> u8;
+    pub fn r3_th(t: f64, h: f64, out: *mut [f64; 10], trials: *mut u32) -> u8;
+    pub fn r3_ts(t: f64, s: f64, out: *mut [f64; 10], trials: *mut u32) -> u8;
+    pub fn r3_pv2t(p: f64, v: f64, t: *mut f64, trials: *mut u32) -> u8;
+    pub fn r3_th2d(t: f64, h: f64, d: *mut f64, trials: *mut u32) -> u8;
+    pub fn r3_ts2d(t: f64, s: f64, d: *mut f64, trials: *mut u32) -> u8;
     pub fn r3_property(number: i32, t: f64, d: f64, out: *mut f64) -> u8;
     pub fn r3_cp_w(t: f64, d: f64, cp: *mut f64, w: *mut f64, w_refusal: *mut u8) -> u8;
     pub fn r3_letter(p: f64, t: f64, letter: *mut u8) -> u8;

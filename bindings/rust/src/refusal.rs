@@ -2,7 +2,8 @@ use std::fmt;
 
 /// Why a call is refused.
 ///
-/// They are looked for in the order 7, 6, 1, 2, 3, 8, then 4 or 5 at the first step that meets either. Later versions of the library add numbers.
+/// They are looked for in the order 7, 6, 1, 2, 3, 8, then 4 or 5 at the first step that meets either; of a search its 5, 4 of what it proposes, 5 or 4
+/// of the test, 15, then the record's 4 or 5. Later versions of the library add numbers.
 #[derive(Clone, Copy, Debug, PartialEq, Eq, Hash)]
 #[non_exhaustive]
 pub enum Refusal {
@@ -32,6 +33,8 @@ pub enum Refusal {
     OutOfOrder,
     /// 14, of [`read`](crate::read) alone: the known tags are not one of the five pairs.
     NotAPair,
+    /// 15: what a search proposes has not the property that was asked for.
+    Unfound,
     /// 16, of [`write`](crate::write) alone: fewer than 22 bytes are lent.
     NoRoom,
     /// A number that this version of the crate does not know: the library is newer than the crate.
@@ -59,6 +62,7 @@ impl Refusal {
             12 => Refusal::WrongLength,
             13 => Refusal::OutOfOrder,
             14 => Refusal::NotAPair,
+            15 => Refusal::Unfound,
             16 => Refusal::NoRoom,
             other => Refusal::Other(other),
         })
@@ -80,6 +84,7 @@ impl Refusal {
             Refusal::WrongLength => 12,
             Refusal::OutOfOrder => 13,
             Refusal::NotAPair => 14,
+            Refusal::Unfound => 15,
             Refusal::NoRoom => 16,
             Refusal::Other(number) => number,
         }
@@ -102,6 +107,7 @@ impl fmt::Display for Refusal {
             Refusal::WrongLength => "a known field is not of 8 bytes",
             Refusal::OutOfOrder => "a known tag is not above the one before",
             Refusal::NotAPair => "the known tags are not one of the five pairs",
+            Refusal::Unfound => "what a search proposes has not the property that was asked for",
             Refusal::NoRoom => "fewer than 22 bytes are lent",
             Refusal::Other(number) => return write!(f, "refused with {number}, which this version of the crate does not know"),
         })

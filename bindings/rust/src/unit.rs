@@ -1,4 +1,4 @@
-// The five units. Each is an f64 and nothing else, so a slice of the one is a slice of the other.
+// The six units. Each is an f64 and nothing else, so a slice of the one is a slice of the other.
 macro_rules! unit {
     ($(#[$doc:meta])* $name:ident) => {
         $(#[$doc])*
@@ -37,6 +37,10 @@ unit! {
 unit! {
     /// A density in kg/m3.
     KgPerM3
+}
+unit! {
+    /// A specific volume in m3/kg.
+    M3PerKg
 }
 unit! {
     /// An enthalpy or an inner energy in kJ/kg.

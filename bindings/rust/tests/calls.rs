@@ -56,6 +56,30 @@ fn cp_and_w_together_are_the_properties_asked_one_by_one() {
 }
 
 #[test]
+fn searched_states() {
+    let found = pv(MPa(50.0), M3PerKg(0.002)).unwrap();
+    assert_eq!((found.found.T.0, found.found.p.0, found.trials), (697.54983343387, 49.99999999999887, 5));
+    assert_eq!(pv_to_t(MPa(50.0), M3PerKg(0.002)), Ok(Searched { found: Kelvin(697.54983343387), trials: 5 }));
+    assert_eq!(td(found.found.T, found.found.d), Ok(found.found));
+    assert_eq!(pv(MPa(50.0), M3PerKg(0.0)), Err(Refusal::Second));
+    assert_eq!(pv(MPa(100.0), M3PerKg(0.001533061262553137)), Err(Refusal::State));
+    assert_eq!(pv(MPa(16.529164252604808), M3PerKg(0.0013157015192282405)), Err(Refusal::Unfound));
+    let d = |s: Searched<Record>| (s.found.d.0, s.trials);
+    assert_eq!(th(Kelvin(700.0), KJPerKg(2500.0)).map(d), Ok((235.3422999307922, 7)));
+    assert_eq!(th(Kelvin(640.0), KJPerKg(2100.0)).map(d), Ok((292.09255280798175, 9)));
+    let (t, h) = (Kelvin(859.1136650031038), KJPerKg(2620.270705157618));
+    assert_eq!(th_to_d(t, h), Ok(Searched { found: KgPerM3(555.121869599535), trials: 8 }));
+    assert_eq!(th(t, h), Err(Refusal::State));
+    assert_eq!(th(Kelvin(856.2225878410742), KJPerKg(1575.9363733204323)), Err(Refusal::Unfound));
+    assert_eq!(ts(Kelvin(863.15), KJPerKgK(4.5)), Err(Refusal::Step));
+    assert_eq!(ts_to_d(Kelvin(743.5006480648088), KJPerKgK(3.3230225561443656)), Err(Refusal::Unfound));
+    let state = td(Kelvin(700.0), KgPerM3(300.0)).unwrap();
+    let again = ts(state.T, state.s).unwrap();
+    assert!((again.found.s.0 - state.s.0).abs() <= 1e-6 && again.trials > 0);
+    assert_eq!(ts_to_d(state.T, state.s), Ok(Searched { found: again.found.d, trials: again.trials }));
+}
+
+#[test]
 fn the_rules() {
     assert_eq!(power(2.0, -3), Ok(0.125));
     assert_eq!(power(2.0, i32::MIN), Err(Refusal::Second));

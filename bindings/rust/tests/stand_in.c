@@ -9,6 +9,14 @@ RECORD(r3_ph)
 RECORD(r3_ps)
 RECORD(r3_hs)
 
+#define SEARCHED(name, fields) r3_byte name(double a, double b, double *out, unsigned *trials) { for (int i = 0; i < fields; i++) out[i] = a + b; *trials = 5; return 200; }
+SEARCHED(r3_pv, R3_FIELDS)
+SEARCHED(r3_th, R3_FIELDS)
+SEARCHED(r3_ts, R3_FIELDS)
+SEARCHED(r3_pv2t, 1)
+SEARCHED(r3_th2d, 1)
+SEARCHED(r3_ts2d, 1)
+
 #define NUMBER(name) r3_byte name(double x, double *out) { *out = x; return 200; }
 NUMBER(r3_p_saturation)
 NUMBER(r3_t_saturation)

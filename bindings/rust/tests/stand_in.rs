@@ -11,6 +11,13 @@ fn an_unknown_number_is_an_error() {
     assert_eq!(ph(p, h), Err(unknown));
     assert_eq!(ps(p, s), Err(unknown));
     assert_eq!(hs(h, s), Err(unknown));
+    let v = M3PerKg(0.002);
+    assert_eq!(pv(p, v), Err(unknown));
+    assert_eq!(th(t, h), Err(unknown));
+    assert_eq!(ts(t, s), Err(unknown));
+    assert_eq!(pv_to_t(p, v), Err(unknown));
+    assert_eq!(th_to_d(t, h), Err(unknown));
+    assert_eq!(ts_to_d(t, s), Err(unknown));
     assert_eq!(property(Property::OH, t, d), Err(unknown));
     assert_eq!(cp_w(t, d), CpW { cp: Err(unknown), w: Err(Refusal::Other(201)) });
     assert_eq!(letter(p, t), Err(unknown));

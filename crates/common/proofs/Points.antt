@@ -10,9 +10,9 @@ use Rattle.common.specs.Answer.{numberOf}
 use Rattle.common.specs.Decimal.{decimal, whole, scaled}
 use Rattle.common.specs.Range.{pTBox, TdBox, phBox, psBox, hsBox, pBox, TBox, saturatedPBox, saturatedTBox, saturatedBox}
 use Rattle.common.specs.declared.Refusal.{Refusal}
-use Rattle.common.specs.declared.Refusal.the-variants.{NotFinite, First, Second, State, Step, Property, Columns, Border}
+use Rattle.common.specs.declared.Refusal.the-variants.{NotFinite, First, Second, State, Step, Property, Columns, Border, Unfound}
 
-pub refusals : map numberOf (NotFinite ∷ First ∷ Second ∷ State ∷ Step ∷ Property ∷ Columns ∷ Border ∷ []) ≡ 1 ∷ 2 ∷ 3 ∷ 4 ∷ 5 ∷ 6 ∷ 7 ∷ 8 ∷ []
+pub refusals : map numberOf (NotFinite ∷ First ∷ Second ∷ State ∷ Step ∷ Property ∷ Columns ∷ Border ∷ Unfound ∷ []) ≡ 1 ∷ 2 ∷ 3 ∷ 4 ∷ 5 ∷ 6 ∷ 7 ∷ 8 ∷ 15 ∷ []
 refusals = refl
 
 -- each box at its lower ends, at its upper ends, just below the first, just above the first, just below the second, just above the second

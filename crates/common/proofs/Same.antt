@@ -10,7 +10,7 @@ use borrow.Fn.Kinds.{PK, RK, Out, Dens, endedOf, resT}
 use Rattle.common.specs.Outcome.{Outcome, value, refused}
 use Rattle.common.specs.Answer.{paper, paperVerdict, numberOf}
 use Rattle.common.specs.declared.Refusal.{Refusal}
-use Rattle.common.specs.declared.Refusal.the-variants.{NotFinite, First, Second, State, Step, Property, Columns, Border}
+use Rattle.common.specs.declared.Refusal.the-variants.{NotFinite, First, Second, State, Step, Property, Columns, Border, Unfound}
 use Rattle.common.specs.declared.Answer.{Answer}
 use Rattle.common.specs.declared.Answer.the-variants as answer
 use Rattle.common.specs.declared.Verdict.{Verdict}
@@ -19,7 +19,8 @@ use Rattle.common.specs.declared.Verdict.the-variants as verdicts
 -- the refusals by their numbers, from 0 on; Step stands where no refusal has the number
 kinds : List Refusal
 kinds =
-    Step ∷ NotFinite ∷ First ∷ Second ∷ State ∷ Step ∷ Property ∷ Columns ∷ Border ∷ []
+    Step ∷ NotFinite ∷ First ∷ Second ∷ State ∷ Step ∷ Property ∷ Columns ∷ Border ∷ Step
+    ∷ Step ∷ Step ∷ Step ∷ Step ∷ Step ∷ Unfound ∷ []
 
 pub kindOf : ℕ → Refusal
 unfolding kinds
@@ -35,6 +36,7 @@ kind-number Step = refl
 kind-number Property = refl
 kind-number Columns = refl
 kind-number Border = refl
+kind-number Unfound = refl
 
 -- what has a way back from the paper's number and value is determined by them
 pub same : {R O : Type 0} (f : R → O) (g : O → R) → ((r : R) → g (f r) ≡ r) → (o : O) (r s : R) → f r ≡ o → f s ≡ o → r ≡ s

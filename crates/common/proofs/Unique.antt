@@ -16,6 +16,8 @@ use Rattle.common.proofs.number.Kinds as number-kinds
 use Rattle.common.proofs.number.Reads as number
 use Rattle.common.proofs.over.Kinds as over-kinds
 use Rattle.common.proofs.over.Reads as over
+use Rattle.common.proofs.size.Kinds as size-kinds
+use Rattle.common.proofs.size.Reads as size
 use Rattle.common.proofs.least.Kinds as least-kinds
 use Rattle.common.proofs.least.Reads as least
 use Rattle.common.proofs.verdict_byte.Kinds as verdict-byte-kinds
@@ -63,6 +65,9 @@ number-one κs a e x y p q = p ∙ sym q
 
 pub over-one : One 0 over-kinds.ps over-kinds.r over.Post
 over-one κs a e x y p q = p ∙ sym q
+
+pub size-one : One 0 size-kinds.ps size-kinds.r size.Post
+size-one κs a e x y p q = p ∙ sym q
 
 pub least-one : One 0 least-kinds.ps least-kinds.r least.Post
 least-one κs a e x y p q = p ∙ sym q

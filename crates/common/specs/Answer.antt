@@ -6,7 +6,7 @@ use Prim.Native.Nat.{ℕ}
 use lib.Ieee.{Float}
 use Rattle.common.specs.Outcome.{Outcome, value, refused}
 use Rattle.common.specs.declared.Refusal.{Refusal}
-use Rattle.common.specs.declared.Refusal.the-variants.{NotFinite, First, Second, State, Step, Property, Columns, Border}
+use Rattle.common.specs.declared.Refusal.the-variants.{NotFinite, First, Second, State, Step, Property, Columns, Border, Unfound}
 use Rattle.common.specs.declared.Answer.{Answer}
 use Rattle.common.specs.declared.Answer.the-variants as answer
 use Rattle.common.specs.declared.Verdict.{Verdict}
@@ -21,6 +21,7 @@ numberOf Step = 5
 numberOf Property = 6
 numberOf Columns = 7
 numberOf Border = 8
+numberOf Unfound = 15
 
 abbrev pub paper : Answer → Outcome Float
 paper (answer.Value x) = value x

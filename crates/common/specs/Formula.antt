@@ -1,8 +1,9 @@
--- To believe, down to `minusOf`: a formula of rounded operations that reads as the document prints it: its operands are what the steps before give, the left one worked first,
+-- To believe, down to `sizeOf`: a formula of rounded operations that reads as the document prints it: its operands are what the steps before give, the left one worked first,
 -- and a result that is not finite is refused with 5. Assumes nothing: these are definitions.
 use mathlib.Core.Path.{_≡_}
-use lib.Ieee.{Float, nan, inf, fin, binary64, neg, add, sub, mul, div}
-use Rattle.common.specs.Outcome.{Outcome, value, check, then}
+use mathlib.Core.Bool.{cond}
+use lib.Ieee.{Float, nan, inf, fin, binary64, lt, neg, add, sub, mul, div}
+use Rattle.common.specs.Outcome.{Outcome, value, check, then, zeroF}
 
 -- one rounded operation
 abbrev pub worked : (Float → Float → Float) → Outcome Float → Outcome Float → Outcome Float
@@ -27,6 +28,10 @@ _⊘_ = worked (div binary64)
 -- the sign turned, which rounds nothing
 abbrev pub minusOf : Outcome Float → Outcome Float
 minusOf o = then o (λ x. value (neg x))
+
+-- |x|, which rounds nothing
+abbrev pub sizeOf : Float → Float
+sizeOf x = cond (lt x zeroF) (neg x) x
 
 -- ---- Helps proofs only: with no check, a number that is lost travels as itself
 

@@ -4,7 +4,7 @@
 ghost use mathlib.Core.Path.{_≡_};
 ghost use Prim.Native.Nat.{_-_};
 ghost use Rattle.common.specs.Outcome.{finite, check, orNan, numberIn};
-ghost use Rattle.common.specs.Formula.{rawOver};
+ghost use Rattle.common.specs.Formula.{sizeOf, rawOver};
 ghost use Rattle.common.specs.Answer.{numberOf, paper, paperVerdict};
 ghost use Rattle.common.specs.Range.{within, onlyRule, pairRule, TdBox, hsBox, pTBox, phBox, psBox};
 ghost use Rattle.common.specs.Property.{propertyNumbers};
@@ -18,6 +18,9 @@ pub struct Kelvin(pub f64);
 
 // A density.
 pub struct KgPerM3(pub f64);
+
+// A volume.
+pub struct M3PerKg(pub f64);
 
 // An enthalpy.
 pub struct KJPerKg(pub f64);
@@ -35,6 +38,7 @@ pub enum Refusal {
     Property,
     Columns,
     Border,
+    Unfound,
 }
 
 // The answer of a call for one number.
@@ -218,6 +222,16 @@ pub fn over(x: f64, y: f64) -> f64
     if is_finite(y) { x / y } else { y }
 }
 
+// x without its sign.
+pub fn size(x: f64) -> f64
+    ensures { λ r. ⌜ r ≡ sizeOf x ⌝ }
+{
+    if x < 0.0 {
+        return -x;
+    }
+    x
+}
+
 // The smaller of two counts.
 pub fn least(a: usize, b: usize) -> usize
     ensures { λ r. ⌜ r ≡ a - (a - b) ⌝ }
@@ -258,6 +272,7 @@ pub fn number(k: Refusal) -> u8
         Refusal::Property => 6,
         Refusal::Columns => 7,
         Refusal::Border => 8,
+        Refusal::Unfound => 15,
     }
 }
 

@@ -24,11 +24,12 @@ use Rattle.td_record.specs.Steps.{recordRule}
 use Rattle.record.specs.Record.{report}
 use Rattle.region3.specs.Entries.{pTRule, phRule, psRule, hsRule}
 use Rattle.column_run.specs.Columns.{rowRule}
+use Rattle.search.specs.Calls.{pv2T-reg3Rule, Th2d-reg3Rule, Ts2d-reg3Rule, pvRule, ThRule, TsRule, reportSearched}
 use Rattle.reply.specs.declared.Reply.{Reply}
 use Rattle.reply.specs.Shape.{numberReply, letterReply, recordReply}
 use Rattle.entries.specs.declared.Entry.{Entry}
 use Rattle.entries.specs.declared.Entry.the-variants as entry
-use Rattle.entries.specs.Named.{rowReply, cpWReply, unknown, placeOf, named}
+use Rattle.entries.specs.Named.{rowReply, cpWReply, foundReply, searchedReply, unknown, placeOf, named}
 
 -- a boundary by its number
 abbrev pub boundaries : List Boundary
@@ -76,3 +77,9 @@ replyRule entry.ColumnRow n a b = rowReply (rowRule a b)
 replyRule entry.BorderT n a b = numberReply (B23-p2TRule a)
 replyRule entry.BorderP n a b = numberReply (B23-T2pRule a)
 replyRule entry.CpW n a b = cpWReply (cpAndWRule a b)
+replyRule entry.PvRecord n a b = searchedReply (reportSearched (pvRule a b))
+replyRule entry.ThRecord n a b = searchedReply (reportSearched (ThRule a b))
+replyRule entry.TsRecord n a b = searchedReply (reportSearched (TsRule a b))
+replyRule entry.PvT n a b = foundReply (pv2T-reg3Rule a b)
+replyRule entry.ThD n a b = foundReply (Th2d-reg3Rule a b)
+replyRule entry.TsD n a b = foundReply (Ts2d-reg3Rule a b)

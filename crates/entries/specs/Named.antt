@@ -1,13 +1,16 @@
--- To believe: the reply of a row of the column run and of cp and w together, and what a whole number names.
+-- To believe: the reply of a row of the column run, of cp and w together, of what a search found, and what a whole number names.
 use mathlib.Core.Bool.{cond}
 use Prim.Native.Nat.{ℕ, _^_}
 use mathlib.Core.List.{List, _∷_}
 use lib.Dec.{ltb}
 use lib.IntN.{ℤ, pos, negsuc}
 use lib.ListN.{length, getD, replicate}
-use Rattle.common.specs.Outcome.{numberIn, valueIn, zeroF}
+use Rattle.common.specs.Outcome.{Outcome, value, refused, numberIn, valueIn, zeroF}
 use Rattle.properties.specs.Together.{CpAndW}
+use Rattle.record.specs.Record.{fieldsOf}
 use Rattle.column_run.specs.declared.Line.{Line}
+use Rattle.secant.specs.Secant.{Proposal}
+use Rattle.search.specs.Calls.{Told}
 use Rattle.reply.specs.declared.Reply.{Reply}
 use Rattle.reply.specs.Shape.{refusedBy}
 
@@ -19,6 +22,15 @@ rowReply l = record { refusal = l .refusal; letter = l .letter; beside = 0; numb
 abbrev pub cpWReply : CpAndW → Reply
 cpWReply a =
     record { refusal = numberIn (a .cp); letter = 0; beside = numberIn (a .w); numbers = valueIn (a .cp) ∷ valueIn (a .w) ∷ replicate 8 zeroF }
+
+-- a T or d that a search found, in the first place, and the trials beside
+abbrev pub foundReply : Outcome Proposal → Reply
+foundReply (value q) = record { refusal = 0; letter = 0; beside = q .trials; numbers = q .x ∷ replicate 9 zeroF }
+foundReply (refused k) = refusedBy k
+
+-- a record whose state a search found, and the trials beside
+abbrev pub searchedReply : Told → Reply
+searchedReply a = record { refusal = numberIn (a .verdict); letter = 0; beside = a .trials; numbers = fieldsOf (a .state) }
 
 -- no such entry, boundary, letter or phase
 abbrev pub unknown : Reply

@@ -2,8 +2,10 @@
 use crate::Entry;
 use crate::shape::UNKNOWN;
 use crate::shape::cp_w_reply;
+use crate::shape::found_reply;
 use crate::shape::place;
 use crate::shape::row_reply;
+use crate::shape::searched_reply;
 use boundary::Boundary;
 use boundary::T_atRegionBoundary;
 use boundary::sub_region3_pT;
@@ -11,6 +13,7 @@ use common::KJPerKg;
 use common::KJPerKgK;
 use common::Kelvin;
 use common::KgPerM3;
+use common::M3PerKg;
 use common::MPa;
 use record::blank;
 use reply::Reply;
@@ -111,5 +114,11 @@ pub fn answer(entry: Entry, n: i32, a: f64, b: f64) -> Reply
         Entry::BorderT => number_reply(border::B23_p2T(MPa(a))),
         Entry::BorderP => number_reply(border::B23_T2p(Kelvin(a))),
         Entry::CpW => cp_w_reply(by_number::Td2cp_w_reg3(Kelvin(a), KgPerM3(b))),
+        Entry::PvRecord => searched_reply(search::pv_reg3(blank(), MPa(a), M3PerKg(b))),
+        Entry::ThRecord => searched_reply(search::Th_reg3(blank(), Kelvin(a), KJPerKg(b))),
+        Entry::TsRecord => searched_reply(search::Ts_reg3(blank(), Kelvin(a), KJPerKgK(b))),
+        Entry::PvT => found_reply(search::pv2T_reg3(MPa(a), M3PerKg(b))),
+        Entry::ThD => found_reply(search::Th2d_reg3(Kelvin(a), KJPerKg(b))),
+        Entry::TsD => found_reply(search::Ts2d_reg3(Kelvin(a), KJPerKgK(b))),
     }
 }

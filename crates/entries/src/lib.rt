@@ -37,6 +37,12 @@ pub enum Entry {
     PsRecord,
     HsRecord,
     Property,
+    PvRecord,
+    ThRecord,
+    TsRecord,
     ColumnRow,
     CpW,
+    PvT,
+    ThD,
+    TsD,
 }

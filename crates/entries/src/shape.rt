@@ -1,11 +1,20 @@
-// What the entries add to the shapes of a reply: a row of the column run, cp and w together, and what a whole number names.
+// What the entries add to the shapes of a reply: a row of the column run, cp and w together, what a search found with its trials, and what a
+// whole number names.
 use by_number::CpW;
 use column_run::Line;
+use common::number;
+use common::verdict_byte;
+use record::fields;
 use reply::Reply;
 use reply::number_reply;
+use reply::refused;
+use search::FoundAnswer;
+use search::SearchedRecord;
 ghost use mathlib.Core.Path.{_≡_};
 ghost use Rattle.by_number.specs.Together.{paperCpW};
-ghost use Rattle.entries.specs.Named.{rowReply, cpWReply, placeOf};
+ghost use Rattle.place.specs.Found.{paperFound};
+ghost use Rattle.search.specs.Calls.{paperSearched};
+ghost use Rattle.entries.specs.Named.{rowReply, cpWReply, foundReply, searchedReply, placeOf};
 
 // The refusal of an entry, a boundary, a letter or a phase that does not exist.
 pub const UNKNOWN: u8 = 255;
@@ -36,6 +45,35 @@ pub fn cp_w_reply(a: CpW) -> Reply
         letter: 0,
         beside: second.refusal as u32,
         numbers: [xs[0], ys[0], 0.0, 0.0, 0.0, 0.0, 0.0, 0.0, 0.0, 0.0],
+    }
+}
+
+// A T or d that a search found, and its trials beside.
+pub fn found_reply(a: FoundAnswer) -> Reply
+    ensures { λ r. ⌜ r ≡ foundReply (paperFound a) ⌝ }
+{
+    match a {
+        FoundAnswer::Value(x, trials) => Reply {
+            refusal: 0,
+            letter: 0,
+            beside: trials,
+            numbers: [x, 0.0, 0.0, 0.0, 0.0, 0.0, 0.0, 0.0, 0.0, 0.0],
+        },
+        FoundAnswer::Refused(k) => refused(number(k)),
+    }
+}
+
+// A record whose state a search found, and its trials beside.
+pub fn searched_reply(a: SearchedRecord) -> Reply
+    ensures { λ r. ⌜ r ≡ searchedReply (paperSearched a) ⌝ }
+{
+    let v = a.verdict;
+    let x = a.record;
+    Reply {
+        refusal: verdict_byte(v),
+        letter: 0,
+        beside: a.trials,
+        numbers: fields(x),
     }
 }
 

@@ -12,7 +12,7 @@ use Rattle.common.specs.Outcome.{Outcome, value, refused}
 use Rattle.common.specs.Answer.{numberOf}
 use Rattle.common.proofs.Same.{One, same, kindOf, kind-number}
 use Rattle.common.specs.declared.Refusal.{Refusal}
-use Rattle.common.specs.declared.Refusal.the-variants.{NotFinite, First, Second, State, Step, Property, Columns, Border}
+use Rattle.common.specs.declared.Refusal.the-variants.{NotFinite, First, Second, State, Step, Property, Columns, Border, Unfound}
 use Rattle.exchange_writer.specs.Written.{paperWrite, writeNumber}
 use Rattle.exchange_writer.specs.declared.WriteRefusal.{WriteRefusal}
 use Rattle.exchange_writer.specs.declared.WriteRefusal.the-variants.{Entry, Room}
@@ -38,6 +38,7 @@ not-room Step = refl
 not-room Property = refl
 not-room Columns = refl
 not-room Border = refl
+not-room Unfound = refl
 
 refusal-back : (k : WriteRefusal) → refusalOf (writeNumber k) ≡ k
 unfolding refusalOf

@@ -16,6 +16,8 @@ const FOUND: f64 = -90.5;
 
 const FOUND_BYTE: u8 = 90;
 
+const FOUND_TRIALS: u32 = 90000;
+
 // The calls that write one number.
 fn call_number(entry: u8, n: i32, a: f64, b: f64) -> Reply {
     let mut x = FOUND;
@@ -82,6 +84,39 @@ fn call_record(entry: u8, a: f64, b: f64) -> Reply {
     }
 }
 
+// The calls for what a search finds: the trials stand beside the refusal.
+fn call_found(entry: u8, a: f64, b: f64) -> Reply {
+    let mut x = FOUND;
+    let mut trials = FOUND_TRIALS;
+    let refusal = match entry {
+        35 => region3_c::r3_pv2t(a, b, &mut x, &mut trials),
+        36 => region3_c::r3_th2d(a, b, &mut x, &mut trials),
+        _ => region3_c::r3_ts2d(a, b, &mut x, &mut trials),
+    };
+    Reply {
+        refusal,
+        letter: 0,
+        beside: trials,
+        numbers: [x, 0.0, 0.0, 0.0, 0.0, 0.0, 0.0, 0.0, 0.0, 0.0],
+    }
+}
+
+fn call_searched(entry: u8, a: f64, b: f64) -> Reply {
+    let mut numbers = [FOUND; 10];
+    let mut trials = FOUND_TRIALS;
+    let refusal = match entry {
+        26 => region3_c::r3_pv(a, b, &mut numbers, &mut trials),
+        27 => region3_c::r3_th(a, b, &mut numbers, &mut trials),
+        _ => region3_c::r3_ts(a, b, &mut numbers, &mut trials),
+    };
+    Reply {
+        refusal,
+        letter: 0,
+        beside: trials,
+        numbers,
+    }
+}
+
 // One row of the column run. A call that is refused as a whole has its own number, which no row has.
 fn call_column(a: f64, b: f64) -> Reply {
     let ps = [a; 1];
@@ -102,8 +137,10 @@ fn call(entry: u8, n: i32, a: f64, b: f64) -> Reply {
     match entry {
         8 => call_letter(a, b),
         20 | 21 | 22 | 23 | 24 => call_record(entry, a, b),
+        26 | 27 | 28 => call_searched(entry, a, b),
         30 => call_column(a, b),
         34 => call_cp_w(a, b),
+        35 | 36 | 37 => call_found(entry, a, b),
         _ => call_number(entry, n, a, b),
     }
 }
@@ -141,9 +178,9 @@ fn judge_file(fd: i32, rows: &mut [u64], differ: &mut [u64]) -> Tally {
     t
 }
 
-fn say_entries(rows: &[u64; 35], differ: &[u64; 35]) {
+fn say_entries(rows: &[u64; 38], differ: &[u64; 38]) {
     let mut e = 0;
-    while e < 35 {
+    while e < 38 {
         if rows[e] > 0 {
             say_number(b"entry ", e as u64);
             say_counts(rows[e], differ[e]);
@@ -172,8 +209,8 @@ fn main() {
         say(b"not read\n");
         return;
     }
-    let mut rows = [0u64; 35];
-    let mut differ = [0u64; 35];
+    let mut rows = [0u64; 38];
+    let mut differ = [0u64; 38];
     let t = judge_file(fd, &mut rows, &mut differ);
     libc::close(fd);
     say_entries(&rows, &differ);

@@ -16,7 +16,8 @@ use Rattle.record.specs.Record.{report}
 use Rattle.td_record.specs.Steps.{recordRule}
 use Rattle.region3.specs.Entries.{pTRule, phRule, psRule, hsRule}
 use Rattle.column_run.specs.Columns.{lent, columnsRule}
-use Rattle.region3_c.specs.Exported.{Exported, ExportedLetter, ExportedRecord, ExportedColumns}
+use Rattle.search.specs.Calls.{pv2T-reg3Rule, Th2d-reg3Rule, Ts2d-reg3Rule, pvRule, ThRule, TsRule, reportSearched}
+use Rattle.region3_c.specs.Exported.{Exported, ExportedLetter, ExportedRecord, ExportedFound, ExportedSearched, ExportedColumns}
 use Rattle.region3_c.proofs.r3_root.Kinds as root-kinds
 use Rattle.region3_c.proofs.r3_root.Reads as root
 use Rattle.region3_c.proofs.r3_logarithm.Kinds as logarithm-kinds
@@ -45,6 +46,18 @@ use Rattle.region3_c.proofs.r3_ps.Kinds as ps-kinds
 use Rattle.region3_c.proofs.r3_ps.Reads as ps
 use Rattle.region3_c.proofs.r3_hs.Kinds as hs-kinds
 use Rattle.region3_c.proofs.r3_hs.Reads as hs
+use Rattle.region3_c.proofs.r3_pv2t.Kinds as pv2t-kinds
+use Rattle.region3_c.proofs.r3_pv2t.Reads as pv2t
+use Rattle.region3_c.proofs.r3_th2d.Kinds as th2d-kinds
+use Rattle.region3_c.proofs.r3_th2d.Reads as th2d
+use Rattle.region3_c.proofs.r3_ts2d.Kinds as ts2d-kinds
+use Rattle.region3_c.proofs.r3_ts2d.Reads as ts2d
+use Rattle.region3_c.proofs.r3_pv.Kinds as pv-kinds
+use Rattle.region3_c.proofs.r3_pv.Reads as pv
+use Rattle.region3_c.proofs.r3_th.Kinds as th-kinds
+use Rattle.region3_c.proofs.r3_th.Reads as th
+use Rattle.region3_c.proofs.r3_ts.Kinds as ts-kinds
+use Rattle.region3_c.proofs.r3_ts.Reads as ts
 use Rattle.region3_c.proofs.r3_columns.Kinds as columns-kinds
 use Rattle.region3_c.proofs.r3_columns.Reads as columns
 
@@ -103,6 +116,30 @@ ps-says κs a e x p = p
 pub hs-says : (κs : Lfts 1) (a : Dens κs hs-kinds.ps) (e : AtExit (endedOf 1 hs-kinds.ps hs-kinds.r) κs) (x : resT hs-kinds.r κs .Denot) → hs.Post κs a x e
     → ExportedRecord (report (hsRule (a .0) (a .1 .0))) x (now (e .1 .1 .0))
 hs-says κs a e x p = p
+
+pub pv2t-says : (κs : Lfts 2) (a : Dens κs pv2t-kinds.ps) (e : AtExit (endedOf 2 pv2t-kinds.ps pv2t-kinds.r) κs) (x : resT pv2t-kinds.r κs .Denot) → pv2t.Post κs a x e
+    → ExportedFound (pv2T-reg3Rule (a .0) (a .1 .0)) x (now (e .1 .1 .0)) (now (e .1 .1 .1 .0))
+pv2t-says κs a e x p = p
+
+pub th2d-says : (κs : Lfts 2) (a : Dens κs th2d-kinds.ps) (e : AtExit (endedOf 2 th2d-kinds.ps th2d-kinds.r) κs) (x : resT th2d-kinds.r κs .Denot) → th2d.Post κs a x e
+    → ExportedFound (Th2d-reg3Rule (a .0) (a .1 .0)) x (now (e .1 .1 .0)) (now (e .1 .1 .1 .0))
+th2d-says κs a e x p = p
+
+pub ts2d-says : (κs : Lfts 2) (a : Dens κs ts2d-kinds.ps) (e : AtExit (endedOf 2 ts2d-kinds.ps ts2d-kinds.r) κs) (x : resT ts2d-kinds.r κs .Denot) → ts2d.Post κs a x e
+    → ExportedFound (Ts2d-reg3Rule (a .0) (a .1 .0)) x (now (e .1 .1 .0)) (now (e .1 .1 .1 .0))
+ts2d-says κs a e x p = p
+
+pub pv-says : (κs : Lfts 2) (a : Dens κs pv-kinds.ps) (e : AtExit (endedOf 2 pv-kinds.ps pv-kinds.r) κs) (x : resT pv-kinds.r κs .Denot) → pv.Post κs a x e
+    → ExportedSearched (reportSearched (pvRule (a .0) (a .1 .0))) x (now (e .1 .1 .0)) (now (e .1 .1 .1 .0))
+pv-says κs a e x p = p
+
+pub th-says : (κs : Lfts 2) (a : Dens κs th-kinds.ps) (e : AtExit (endedOf 2 th-kinds.ps th-kinds.r) κs) (x : resT th-kinds.r κs .Denot) → th.Post κs a x e
+    → ExportedSearched (reportSearched (ThRule (a .0) (a .1 .0))) x (now (e .1 .1 .0)) (now (e .1 .1 .1 .0))
+th-says κs a e x p = p
+
+pub ts-says : (κs : Lfts 2) (a : Dens κs ts-kinds.ps) (e : AtExit (endedOf 2 ts-kinds.ps ts-kinds.r) κs) (x : resT ts-kinds.r κs .Denot) → ts.Post κs a x e
+    → ExportedSearched (reportSearched (TsRule (a .0) (a .1 .0))) x (now (e .1 .1 .0)) (now (e .1 .1 .1 .0))
+ts-says κs a e x p = p
 
 pub columns-says : (κs : Lfts 5) (a : Dens κs columns-kinds.ps) (e : AtExit (endedOf 5 columns-kinds.ps columns-kinds.r) κs) (x : resT columns-kinds.r κs .Denot) → columns.Post κs a x e
     → ExportedColumns (columnsRule (now (a .0)) (now (a .1 .0)) (lent (now (a .1 .1 .0)) (now (a .1 .1 .1 .0)) (now (a .1 .1 .1 .1 .0)))) x (now (e .1 .1 .0)) (now (e .1 .1 .1 .0)) (now (e .1 .1 .1 .1 .0))

@@ -46,6 +46,18 @@ use Rattle.region3_c.proofs.r3_ps.Kinds as ps-kinds
 use Rattle.region3_c.proofs.r3_ps.Reads as ps
 use Rattle.region3_c.proofs.r3_hs.Kinds as hs-kinds
 use Rattle.region3_c.proofs.r3_hs.Reads as hs
+use Rattle.region3_c.proofs.r3_pv2t.Kinds as pv2t-kinds
+use Rattle.region3_c.proofs.r3_pv2t.Reads as pv2t
+use Rattle.region3_c.proofs.r3_th2d.Kinds as th2d-kinds
+use Rattle.region3_c.proofs.r3_th2d.Reads as th2d
+use Rattle.region3_c.proofs.r3_ts2d.Kinds as ts2d-kinds
+use Rattle.region3_c.proofs.r3_ts2d.Reads as ts2d
+use Rattle.region3_c.proofs.r3_pv.Kinds as pv-kinds
+use Rattle.region3_c.proofs.r3_pv.Reads as pv
+use Rattle.region3_c.proofs.r3_th.Kinds as th-kinds
+use Rattle.region3_c.proofs.r3_th.Reads as th
+use Rattle.region3_c.proofs.r3_ts.Kinds as ts-kinds
+use Rattle.region3_c.proofs.r3_ts.Reads as ts
 use Rattle.region3_c.proofs.r3_columns.Kinds as columns-kinds
 use Rattle.region3_c.proofs.r3_columns.Reads as columns
 
@@ -57,6 +69,9 @@ OneBehind n ps r post A behind =
 
 both : {A B : Type 0} {a b m : A} {c d n : B} → (a ≡ m) × (c ≡ n) → (b ≡ m) × (d ≡ n) → (a ≡ b) × (c ≡ d)
 both p q = (p .0 ∙ sym (q .0), p .1 ∙ sym (q .1))
+
+pairs : {A B : Type 0} {a b : A} {c d : B} → a ≡ b → c ≡ d → _≡_ {A = A × B} (a, c) (b, d)
+pairs f g = cc
 
 pub power-one : OneBehind 1 power-kinds.ps power-kinds.r power.Post Float (λ κs d. now (d .1 .1 .0))
 power-one κs a d e x y p q = both p q
@@ -111,6 +126,28 @@ ps-one κs a d e x y p q = both p q
 pub hs-one : OneBehind 1 hs-kinds.ps hs-kinds.r hs.Post (List Float) (λ κs d. now (d .1 .1 .0))
 hs-one κs a d e x y p q = both p q
 
+-- of what a search found: one number and one count of trials
+both-told : {A B C : Type 0} {a b m : A} {c d n : B} {e f o : C} → (a ≡ m) × (c ≡ n) × (e ≡ o) → (b ≡ m) × (d ≡ n) × (f ≡ o) → (a ≡ b) × (_≡_ {A = B × C} (c, e) (d, f))
+both-told p q = (p .0 ∙ sym (q .0), pairs (p .1 ∙ sym (q .1)) (p .2 ∙ sym (q .2)))
+
+pub pv2t-one : OneBehind 2 pv2t-kinds.ps pv2t-kinds.r pv2t.Post (Float × ℕ) (λ κs d. (now (d .1 .1 .0), now (d .1 .1 .1 .0)))
+pv2t-one κs a d e x y p q = both-told p q
+
+pub th2d-one : OneBehind 2 th2d-kinds.ps th2d-kinds.r th2d.Post (Float × ℕ) (λ κs d. (now (d .1 .1 .0), now (d .1 .1 .1 .0)))
+th2d-one κs a d e x y p q = both-told p q
+
+pub ts2d-one : OneBehind 2 ts2d-kinds.ps ts2d-kinds.r ts2d.Post (Float × ℕ) (λ κs d. (now (d .1 .1 .0), now (d .1 .1 .1 .0)))
+ts2d-one κs a d e x y p q = both-told p q
+
+pub pv-one : OneBehind 2 pv-kinds.ps pv-kinds.r pv.Post (List Float × ℕ) (λ κs d. (now (d .1 .1 .0), now (d .1 .1 .1 .0)))
+pv-one κs a d e x y p q = both-told p q
+
+pub th-one : OneBehind 2 th-kinds.ps th-kinds.r th.Post (List Float × ℕ) (λ κs d. (now (d .1 .1 .0), now (d .1 .1 .1 .0)))
+th-one κs a d e x y p q = both-told p q
+
+pub ts-one : OneBehind 2 ts-kinds.ps ts-kinds.r ts.Post (List Float × ℕ) (λ κs d. (now (d .1 .1 .0), now (d .1 .1 .1 .0)))
+ts-one κs a d e x y p q = both-told p q
+
 -- every byte of the three columns
 pub columns-one : OneBehind 5 columns-kinds.ps columns-kinds.r columns.Post Lent (λ κs d. lent (now (d .1 .1 .0)) (now (d .1 .1 .1 .0)) (now (d .1 .1 .1 .1 .0)))
 columns-one κs a d e x y p q = both p q
@@ -120,9 +157,6 @@ pub read-one : OneBehind 3 read-kinds.ps read-kinds.r read.Post (ℕ × List Flo
 read-one κs a d e x y p q =
     let t = rw (one-exchange _ (q .answer) (p .answer) (q .exchanged) (p .exchanged)) at (q .told) in
     (p .told .0 ∙ sym (t .0), pairs (p .told .1 ∙ sym (t .1)) (p .told .2 ∙ sym (t .2)))
-  where
-    pairs : {A B : Type 0} {a b : A} {c d : B} → a ≡ b → c ≡ d → _≡_ {A = A × B} (a, c) (b, d)
-    pairs f g = cc
 
 -- every byte of the room
 pub write-one : OneBehind 1 write-kinds.ps write-kinds.r write.Post (List ℕ) (λ κs d. now (d .1 .1 .1 .0))

@@ -6,11 +6,13 @@ use mathlib.Core.List.{List}
 use Prim.Native.Nat.{ℕ}
 use lib.ListN.{getD}
 use lib.Ieee.{Float, nan}
-use Rattle.common.specs.Outcome.{Outcome, numberIn, valueIn}
+use Rattle.common.specs.Outcome.{Outcome, numberIn, valueIn, valueOr, zeroF}
 use Rattle.subregion.specs.declared.Letter.{Letter}
 use Rattle.subregion.specs.Letter.{byteIn}
 use Rattle.record.specs.declared.Record.{Record}
 use Rattle.column_run.specs.Columns.{Lent, lent}
+use Rattle.secant.specs.Secant.{Proposal}
+use Rattle.search.specs.Calls.{Told}
 use Rattle.exchange_record.specs.declared.Pair.{Pair}
 use Rattle.exchange_entry.specs.Call.{pairIn, Exchanged}
 
@@ -25,6 +27,17 @@ ExportedLetter o byte letter = (byte ≡ numberIn o) × (letter ≡ byteIn o)
 -- a record, by its report: +0.0 in every field beside a refusal
 abbrev pub ExportedRecord : Outcome Unit × Record → ℕ → List Float → Type 0
 ExportedRecord s byte fields = (byte ≡ numberIn (s .0)) × (fields ≡ fieldsOf (s .1))
+
+-- what a search found and its trials: +0.0 and none beside a refusal
+abbrev pub nothing : Proposal
+nothing = record { x = zeroF; trials = 0 }
+
+abbrev pub ExportedFound : Outcome Proposal → ℕ → Float → ℕ → Type 0
+ExportedFound o byte number trials = (byte ≡ numberIn o) × (number ≡ valueOr nothing o .x) × (trials ≡ valueOr nothing o .trials)
+
+-- a record whose state a search found, and its trials: +0.0 in every field and none beside a refusal
+abbrev pub ExportedSearched : Told → ℕ → List Float → ℕ → Type 0
+ExportedSearched s byte fields trials = (byte ≡ numberIn (s .verdict)) × (fields ≡ fieldsOf (s .state)) × (trials ≡ s .trials)
 
 -- the three columns: as they were found beside a refusal
 abbrev pub ExportedColumns : Outcome Unit × Lent → ℕ → List ℕ → List Float → List ℕ → Type 0

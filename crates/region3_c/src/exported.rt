@@ -8,6 +8,8 @@ use exchange_entry::verdict_pair;
 use record::Record;
 use record::RecordAnswer;
 use record::fields;
+use search::FoundAnswer;
+use search::SearchedRecord;
 use subregion::LetterAnswer;
 use subregion::letter_byte;
 use subregion::refusal_byte;
@@ -16,7 +18,9 @@ ghost use Rattle.common.specs.Answer.{paper};
 ghost use Rattle.subregion.specs.Letter.{paperLetter};
 ghost use Rattle.record.specs.Record.{paperRecord};
 ghost use Rattle.exchange_entry.specs.Call.{paperExchange};
-ghost use Rattle.region3_c.specs.Exported.{lentRecord, Exported, ExportedLetter, ExportedRecord, ExportedExchange};
+ghost use Rattle.place.specs.Found.{paperFound};
+ghost use Rattle.search.specs.Calls.{paperSearched};
+ghost use Rattle.region3_c.specs.Exported.{lentRecord, Exported, ExportedLetter, ExportedRecord, ExportedFound, ExportedSearched, ExportedExchange};
 
 // The caller's ten numbers, in the record's order.
 pub fn lent_record(xs: [f64; 10]) -> Record
@@ -64,6 +68,33 @@ pub fn exported_record(a: RecordAnswer, out: &mut [f64; 10]) -> u8
     *out = fields(a.record);
     let v = a.verdict;
     verdict_byte(v)
+}
+
+// The trials stand behind a pointer of their own: none beside a refusal.
+pub fn exported_found(a: FoundAnswer, found: &mut f64, trials: &mut u32) -> u8
+    ensures { λ r. ⌜ ExportedFound (paperFound a) r (now (found .exit)) (now (trials .exit)) ⌝ }
+{
+    match a {
+        FoundAnswer::Value(x, count) => {
+            *found = x;
+            *trials = count;
+            return 0;
+        }
+        FoundAnswer::Refused(k) => {
+            *found = 0.0;
+            *trials = 0;
+            return number(k);
+        }
+    }
+}
+
+pub fn exported_searched(a: SearchedRecord, out: &mut [f64; 10], trials: &mut u32) -> u8
+    ensures { λ r. ⌜ ExportedSearched (paperSearched a) r (now (out .exit)) (now (trials .exit)) ⌝ }
+{
+    *out = fields(a.record);
+    *trials = a.trials;
+    let told = a.verdict;
+    verdict_byte(told)
 }
 
 pub fn exported_exchange(a: ExchangeAnswer, pair: &mut u8, out: &mut [f64; 10]) -> u8

@@ -1,7 +1,7 @@
 // The library for callers in C and Rust. A call returns the refusal's number, 0 where it is accepted, and writes what it answers through a
 // pointer (specs/Exported.antt). The caller's ten numbers go in as his record and come back replaced or zeroed. The units and the numbers of the
 // refusals are in bindings/c/region3.h. In this order: the four rules, the saturation line, the border with region 2, a property, cp and w
-// together, the letter, the five records, the columns, the exchange record.
+// together, the letter, the five records, what a search finds and the records there, the columns, the exchange record.
 mod exported;
 
 use border::B23_T2p;
@@ -14,14 +14,17 @@ use common::KJPerKg;
 use common::KJPerKgK;
 use common::Kelvin;
 use common::KgPerM3;
+use common::M3PerKg;
 use common::MPa;
 use common::verdict_byte;
 use exchange_entry::answer;
 use exchange_writer::write_by;
 use exported::exported;
 use exported::exported_exchange;
+use exported::exported_found;
 use exported::exported_letter;
 use exported::exported_record;
+use exported::exported_searched;
 use exported::lent_record;
 use r4::T_saturation;
 use r4::p_saturation;
@@ -33,6 +36,12 @@ use rules::exponential;
 use rules::logarithm;
 use rules::power;
 use rules::root;
+use search::Th_reg3;
+use search::Th2d_reg3;
+use search::Ts_reg3;
+use search::Ts2d_reg3;
+use search::pv_reg3;
+use search::pv2T_reg3;
 use td_record::Td_reg3;
 ghost use mathlib.Core.Path.{_≡_};
 ghost use Rattle.rules.specs.Power.{powerRule};
@@ -47,9 +56,10 @@ ghost use Rattle.by_number.specs.Together.{cpAndWRule};
 ghost use Rattle.record.specs.Record.{report};
 ghost use Rattle.td_record.specs.Steps.{recordRule};
 ghost use Rattle.region3.specs.Entries.{pTRule, phRule, psRule, hsRule};
+ghost use Rattle.search.specs.Calls.{pv2T-reg3Rule, Th2d-reg3Rule, Ts2d-reg3Rule, pvRule, ThRule, TsRule, reportSearched};
 ghost use Rattle.column_run.specs.Columns.{lent, columnsRule};
 ghost use Rattle.exchange_writer.specs.Written.{writtenBy};
-ghost use Rattle.region3_c.specs.Exported.{Exported, ExportedLetter, ExportedRecord, ExportedColumns, ExportedRead};
+ghost use Rattle.region3_c.specs.Exported.{Exported, ExportedLetter, ExportedRecord, ExportedFound, ExportedSearched, ExportedColumns, ExportedRead};
 
 #[no_mangle]
 pub extern "C" fn r3_power(a: f64, n: i32, out: &mut f64) -> u8
@@ -166,6 +176,57 @@ pub extern "C" fn r3_hs(h: f64, s: f64, out: &mut [f64; 10]) -> u8
     ensures { λ r. ⌜ ExportedRecord (report (hsRule h s)) r (now (out .exit)) ⌝ }
 {
     exported_record(hs_reg3(lent_record(*out), KJPerKg(h), KJPerKgK(s)), out)
+}
+
+// What a search finds, and its trials: T at p and v, d at T and h, d at T and s; then the records there.
+#[no_mangle]
+pub extern "C" fn r3_pv2t(p: f64, v: f64, out: &mut f64, trials: &mut u32) -> u8
+    ensures { λ r. ⌜ ExportedFound (pv2T-reg3Rule p v) r (now (out .exit)) (now (trials .exit)) ⌝ }
+{
+    exported_found(pv2T_reg3(MPa(p), M3PerKg(v)), out, trials)
+}
+
+#[no_mangle]
+pub extern "C" fn r3_th2d(t: f64, h: f64, out: &mut f64, trials: &mut u32) -> u8
+    ensures { λ r. ⌜ ExportedFound (Th2d-reg3Rule t h) r (now (out .exit)) (now (trials .exit)) ⌝ }
+{
+    exported_found(Th2d_reg3(Kelvin(t), KJPerKg(h)), out, trials)
+}
+
+#[no_mangle]
+pub extern "C" fn r3_ts2d(t: f64, s: f64, out: &mut f64, trials: &mut u32) -> u8
+    ensures { λ r. ⌜ ExportedFound (Ts2d-reg3Rule t s) r (now (out .exit)) (now (trials .exit)) ⌝ }
+{
+    exported_found(Ts2d_reg3(Kelvin(t), KJPerKgK(s)), out, trials)
+}
+
+#[no_mangle]
+pub extern "C" fn r3_pv(p: f64, v: f64, out: &mut [f64; 10], trials: &mut u32) -> u8
+    ensures { λ r. ⌜ ExportedSearched (reportSearched (pvRule p v)) r (now (out .exit)) (now (trials .exit)) ⌝ }
+{
+    exported_searched(pv_reg3(lent_record(*out), MPa(p), M3PerKg(v)), out, trials)
+}
+
+#[no_mangle]
+pub extern "C" fn r3_th(t: f64, h: f64, out: &mut [f64; 10], trials: &mut u32) -> u8
+    ensures { λ r. ⌜ ExportedSearched (reportSearched (ThRule t h)) r (now (out .exit)) (now (trials .exit)) ⌝ }
+{
+    exported_searched(
+        Th_reg3(lent_record(*out), Kelvin(t), KJPerKg(h)),
+        out,
+        trials,
+    )
+}
+
+#[no_mangle]
+pub extern "C" fn r3_ts(t: f64, s: f64, out: &mut [f64; 10], trials: &mut u32) -> u8
+    ensures { λ r. ⌜ ExportedSearched (reportSearched (TsRule t s)) r (now (out .exit)) (now (trials .exit)) ⌝ }
+{
+    exported_searched(
+        Ts_reg3(lent_record(*out), Kelvin(t), KJPerKgK(s)),
+        out,
+        trials,
+    )
 }
 
 // The column run: 0, or 7 and nothing written.

@@ -11,7 +11,7 @@ pub use shape::number_reply;
 pub use shape::record_reply;
 pub use shape::refused;
 
-// The refusal's number or 0, the letter in ASCII or 0, a whole number beside these (of cp and w together: w's refusal), and up to ten numbers.
+// The refusal's number or 0, the letter in ASCII or 0, a whole number beside these (of cp and w together: w's refusal; of a search: its trials), and up to ten numbers.
 pub struct Reply {
     pub refusal: u8,
     pub letter: u8,

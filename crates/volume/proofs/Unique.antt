@@ -16,6 +16,8 @@ use Rattle.volume.proofs.region3_v_pT.found_by.Kinds as found-by-kinds
 use Rattle.volume.proofs.region3_v_pT.found_by.Reads as found-by
 use Rattle.volume.proofs.region3_v_pT.found_pT.Kinds as found-pT-kinds
 use Rattle.volume.proofs.region3_v_pT.found_pT.Reads as found-pT
+use Rattle.volume.proofs.region3_v_pT.pT2v_at.Kinds as pT2v-at-kinds
+use Rattle.volume.proofs.region3_v_pT.pT2v_at.Reads as pT2v-at
 use Rattle.volume.proofs.region3_v_pT.pT2v_reg3.Kinds as pT2v-reg3-kinds
 use Rattle.volume.proofs.region3_v_pT.pT2v_reg3.Reads as pT2v-reg3
 use Rattle.volume.proofs.region3_v_pT.pT2v_3subreg.Kinds as pT2v-3subreg-kinds
@@ -58,6 +60,9 @@ found-by-one κs a e x y p q = same-state _ x y p q
 
 pub found-pT-one : One 0 found-pT-kinds.ps found-pT-kinds.r found-pT.Post
 found-pT-one κs a e x y p q = same-state _ x y p q
+
+pub pT2v-at-one : One 0 pT2v-at-kinds.ps pT2v-at-kinds.r pT2v-at.Post
+pT2v-at-one κs a e x y p q = same-answer _ x y p q
 
 pub pT2v-reg3-one : One 0 pT2v-reg3-kinds.ps pT2v-reg3-kinds.r pT2v-reg3.Post
 pT2v-reg3-one κs a e x y p q = same-answer _ x y p q

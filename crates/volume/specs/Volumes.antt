@@ -1,8 +1,8 @@
 -- To believe: what a call with (p,T) finds: a volume, its density, and where the volume comes from (r3/region3_v_pT.rs). Assumes nothing: these are definitions.
-use Rattle.common.specs.Formula.{_⊖_, _⊘_}
+use Rattle.common.specs.Formula.{_⊖_, _⊘_, sizeOf}
 use mathlib.Core.Bool.{Bool, false, cond}
-use lib.Ieee.{Float, lt, neg}
-use Rattle.common.specs.Outcome.{Outcome, value, refused, then, zeroF}
+use lib.Ieee.{Float, lt}
+use Rattle.common.specs.Outcome.{Outcome, value, refused, then}
 use Rattle.common.specs.Answer.{numberOf}
 use Rattle.common.specs.Decimal.{decimal, whole}
 use Rattle.common.specs.Constant.{P-TOL, T-TOL, TC-WATER, PC-WATER, DC-WATER}
@@ -43,10 +43,6 @@ stateOf o q = then q (λ v. then (densityOf (value v)) (λ d. value (record { or
 
 -- ---- the critical point
 
--- |x|, which rounds nothing
-abbrev pub sizeOf : Float → Float
-sizeOf x = cond (lt x zeroF) (neg x) x
-
 -- x strictly within tol of centre
 abbrev pub near : Float → Float → Float → Outcome Bool
 near x centre tol = then (value x ⊖ value centre) (λ y. value (lt (sizeOf y) tol))
@@ -70,6 +66,15 @@ stateBy Critical p t = stateOf Critical (value (whole 1) ⊘ value DC-WATER)
 unfoldable pub stateAt : Float → Float → Outcome State
 unfolding originAt stateBy
 stateAt p t = then (originAt p t) (λ o. stateBy o p t)
+
+-- the volume alone, whose density is not looked at either
+unfoldable pub volumeFrom : Origin → Float → Float → Outcome Float
+volumeFrom (Subregion l) p t = volumeAt l p t
+volumeFrom Critical p t = value (whole 1) ⊘ value DC-WATER
+
+unfoldable pub pT2v-at : Float → Float → Outcome Float
+unfolding originAt volumeFrom
+pT2v-at p t = then (originAt p t) (λ o. volumeFrom o p t)
 
 -- ---- the calls: the box, once
 

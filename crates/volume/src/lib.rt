@@ -10,6 +10,7 @@ pub use region3_v_pT::found_pT;
 pub use region3_v_pT::origin_at;
 pub use region3_v_pT::origin_pT;
 pub use region3_v_pT::pT2v_3subreg;
+pub use region3_v_pT::pT2v_at;
 pub use region3_v_pT::pT2v_reg3;
 pub use region3_v_pT::pT2v_sat_reg3;
 

@@ -22,6 +22,7 @@ use common::Verdict;
 use common::check_pT;
 use common::check_pair;
 use common::is_finite;
+use common::settle;
 use record::Origin;
 use record::density;
 use record::settle_v;
@@ -30,8 +31,9 @@ use subregion::LetterAnswer;
 ghost use mathlib.Core.Path.{_≡_};
 ghost use lib.Ieee.{lt};
 ghost use Rattle.common.specs.Outcome.{check};
+ghost use Rattle.common.specs.Formula.{sizeOf};
 ghost use Rattle.common.specs.Answer.{paper};
-ghost use Rattle.volume.specs.Volumes.{paperState, paperOrigin, stateOf, sizeOf, letteredAt, originAt, originRule, stateBy, stateAt, volumeIn, foundRule, pT2v-reg3Rule, pT2v-3subregRule, saturatedLetter, pT2v-sat-reg3Rule};
+ghost use Rattle.volume.specs.Volumes.{paperState, paperOrigin, stateOf, letteredAt, originAt, originRule, stateBy, stateAt, volumeIn, volumeFrom, pT2v-at, foundRule, pT2v-reg3Rule, pT2v-3subregRule, saturatedLetter, pT2v-sat-reg3Rule};
 
 // A volume with its density.
 fn found(o: Origin, v: f64) -> StateAnswer
@@ -140,6 +142,25 @@ pub fn pT2v_reg3(p: MPa, t: Kelvin) -> Answer
     match check_pT(p, t) {
         Verdict::Accepted => volume_in(found_at(p, t)),
         Verdict::Refused(k) => Answer::Refused(k),
+    }
+}
+
+fn volume_from(o: Origin, p: MPa, t: Kelvin) -> Answer
+    ensures { λ r. ⌜ paper r ≡ volumeFrom o (p .0) (t .0) ⌝ }
+{
+    match o {
+        Origin::Subregion(l) => settle(raw_volume(l, p.0, t.0)),
+        Origin::Critical => settle(1.0 / DC_WATER),
+    }
+}
+
+// The volume in m3/kg at any p and t: neither the box nor its density is looked at, so that 5 is the one refusal.
+pub fn pT2v_at(p: MPa, t: Kelvin) -> Answer
+    ensures { λ r. ⌜ paper r ≡ pT2v-at (p .0) (t .0) ⌝ }
+{
+    match origin_at(p, t) {
+        OriginAnswer::Value(o) => volume_from(o, p, t),
+        OriginAnswer::Refused(k) => Answer::Refused(k),
     }
 }
 

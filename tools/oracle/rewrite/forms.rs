@@ -23,6 +23,13 @@ const OPENED: [&str; 1] = ["p2h_3ab"];
 /// The p that docs/SCOPE.md wants range-tested wherever a formula works it out.
 const TESTED: &str = "Td2p_reg3";
 
+/// What the searches ask for, trial by trial, and by which function: there p is not range-tested.
+const SOUGHT: [(&str, &str); 3] = [
+    ("Td2p_reg3", "Td2p_reg3_untested"),
+    ("Td2h_reg3", "Td2h_reg3"),
+    ("Td2s_reg3", "Td2s_reg3"),
+];
+
 impl Form {
     pub fn name(self) -> &'static str {
         match self {
@@ -34,7 +41,7 @@ impl Form {
 
     pub fn rewrite(self, file: &str, rust: &str) -> String {
         let mut tokens = cut(rust);
-        if file == "region3" || file == "boundaries" {
+        if ["region3", "boundaries", "root"].contains(&file) {
             tokens = items::taken(&tokens);
         }
         tokens = moved(&opened(&tokens), self.name());
@@ -42,13 +49,16 @@ impl Form {
             Form::Plain => join(&tokens),
             Form::Ruled => format!("use crate::raw::Rules;\n{}", join(&ruled(&tokens))),
             Form::Checked => {
-                let text = join(&tested(&retyped(&cast(&tokens))));
-                let test = if file == "region3_Td" {
-                    wrapper()
-                } else {
-                    String::new()
+                let mut tokens = tested(&retyped(&cast(&tokens)));
+                let more = match file {
+                    "region3_Td" => wrapper(),
+                    "region3_pair_ext" => {
+                        tokens = counted(&tokens);
+                        counters()
+                    }
+                    _ => String::new(),
                 };
-                format!("use crate::num::Num;\n{text}\n{test}")
+                format!("use crate::num::Num;\n{}\n{more}", join(&tokens))
             }
         }
     }
@@ -191,4 +201,25 @@ fn wrapper() -> String {
             {TESTED}_untested(T, d).of_the_state(crate::ranges::P_BOX)
         }}\n"
     )
+}
+
+/// Where a search names what it asks for, a function stands that counts how often it is asked.
+fn counted(tokens: &[Token]) -> Vec<Token> {
+    let change = |t: &Token| match SOUGHT.iter().any(|s| is_word(t, s.0)) {
+        true => Token::new(Kind::Word, &format!("counted_{}", t.text)),
+        false => t.clone(),
+    };
+    tokens.iter().map(change).collect()
+}
+
+fn counters() -> String {
+    let counter = |(name, worked)| {
+        format!(
+            "fn counted_{name}(T: Num, d: Num) -> Num {{
+            crate::num::asked();
+            {worked}(T, d)
+        }}\n"
+        )
+    };
+    SOUGHT.map(counter).concat()
 }

@@ -1,18 +1,20 @@
 //! Splits a file's tokens into its items (uses, constants, functions) and keeps the wanted ones.
-//! Of region3.rs and boundaries.rs only functions stay that do not call what docs/SCOPE.md leaves behind.
+//! Of region3.rs, boundaries.rs and root.rs only functions stay that do not call what docs/SCOPE.md leaves behind.
 
 use crate::tokens::{after, Kind, Token};
 
-/// What the port takes of region3.rs and boundaries.rs. `Td_reg3` differs from `Td_thermal_reg3` by the transport
-/// properties alone, which are left behind: it is renamed where the other four call it.
-pub const TAKEN: [&str; 7] = [
+/// What the port takes of region3.rs, boundaries.rs and root.rs. `Td_reg3` differs from `Td_thermal_reg3` by the transport
+/// properties alone, which are left behind: it is renamed where the other five call it.
+pub const TAKEN: [&str; 9] = [
     "Td_thermal_reg3",
     "pT_reg3",
     "ph_reg3",
     "ps_reg3",
     "hs_reg3",
+    "pv_reg3",
     "B23_T2p",
     "B23_p2T",
+    "rtsec",
 ];
 
 /// The regions that are left behind.
@@ -60,9 +62,11 @@ fn split(tokens: &[Token]) -> Vec<&[Token]> {
     items
 }
 
+/// The function that an item defines: `fn` without a name is a type.
 fn function(item: &[Token]) -> Option<&str> {
     let at = item
         .iter()
         .position(|t| t.kind == Kind::Word && t.is("fn"))?;
-    Some(item[after(item, at + 1)?].text.as_str())
+    let name = &item[after(item, at + 1)?];
+    (name.kind == Kind::Word).then_some(name.text.as_str())
 }

@@ -60,6 +60,15 @@ pub fn cut(text: &str) -> Vec<Token> {
     tokens
 }
 
+/// Where the block comment ends whose text starts at `from`. None of the crate's holds another.
+fn ended(chars: &[char], from: usize) -> usize {
+    let close = |i: &usize| chars[*i] == '*' && chars.get(*i + 1) == Some(&'/');
+    (from..chars.len())
+        .find(close)
+        .expect("a block comment ends")
+        + 2
+}
+
 /// The kind of the token that starts at `at`, and its end.
 fn one(chars: &[char], at: usize, last: Option<&Token>) -> (Kind, usize) {
     let next = |i: usize| chars.get(i).copied().unwrap_or('\n');
@@ -70,7 +79,7 @@ fn one(chars: &[char], at: usize, last: Option<&Token>) -> (Kind, usize) {
     };
     match chars[at] {
         '/' if next(at + 1) == '/' => (Kind::Space, run(at, &|c| c != '\n')),
-        '/' if next(at + 1) == '*' => panic!("a block comment: the crate's files have none"),
+        '/' if next(at + 1) == '*' => (Kind::Space, ended(chars, at + 2)),
         c if c.is_whitespace() => (Kind::Space, run(at, &char::is_whitespace)),
         '"' => (Kind::Quoted, run(at + 1, &|c| c != '"') + 1),
         '\'' if next(at + 2) == '\'' => (Kind::Quoted, at + 3),

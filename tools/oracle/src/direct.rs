@@ -65,6 +65,22 @@ macro_rules! direct {
                     }
                     25 => r3::Td_thermal_reg3(x, y, whole),
                     30 => return Answer::lettered(letter(x, y), r3::pT_reg3(x, y, OD)),
+                    26 => {
+                        let (T, d) = (r3::pv2T_reg3(x, y), r3::pv_reg3(x, y, OD));
+                        return record(T, d, |number| r3::pv_reg3(x, y, number));
+                    }
+                    27 | 28 => {
+                        // region3.rs has these pairs with t in degrees Celsius only
+                        let d = if row.entry == 27 {
+                            r3::Th2d_reg3(x, y)
+                        } else {
+                            r3::Ts2d_reg3(x, y)
+                        };
+                        return record(x, d, |number| r3::Td_thermal_reg3(x, d, number));
+                    }
+                    35 => r3::pv2T_reg3(x, y),
+                    36 => r3::Th2d_reg3(x, y),
+                    37 => r3::Ts2d_reg3(x, y),
                     34 => {
                         let mut both = Answer::number(r3::Td_thermal_reg3(x, y, OCP));
                         both.numbers[1] = r3::Td_thermal_reg3(x, y, OW);

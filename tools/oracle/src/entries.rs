@@ -6,9 +6,9 @@ use crate::forms::checked::{common, r3, r4};
 use crate::num::{watch, Num};
 use crate::ranges::*;
 use crate::row::{is_property, Answer, Row, BOUNDARIES};
-use crate::rules;
+use crate::{rules, searches};
 
-type Outcome<A> = Result<A, u8>;
+pub type Outcome<A> = Result<A, u8>;
 
 /// Answers one row.
 pub fn answer(row: &Row) -> Answer {
@@ -54,6 +54,7 @@ pub fn answer(row: &Row) -> Answer {
         25 => number(Td_property(x, y, row.whole)),
         30 => column_row(x, y).map(|(letter, d)| Answer::lettered(letter, d)),
         34 => Ok(cp_and_w(x, y)),
+        26..=28 | 35..=37 => searches::answer(row.entry, x, y),
         _ => Err(NO_ENTRY),
     };
     outcome.unwrap_or_else(Answer::refused)
@@ -70,7 +71,7 @@ fn one(x: f64, range: Range) -> Outcome<Num> {
     Ok(Num(x))
 }
 
-fn two(x: f64, x_range: Range, y: f64, y_range: Range) -> Outcome<(Num, Num)> {
+pub fn two(x: f64, x_range: Range, y: f64, y_range: Range) -> Outcome<(Num, Num)> {
     if !x.is_finite() || !y.is_finite() {
         return Err(NOT_FINITE);
     }
@@ -90,7 +91,7 @@ fn in_region3(p: f64, T: f64) -> Outcome<(Num, Num)> {
     Ok((p, T))
 }
 
-fn steps(work: impl FnOnce() -> Num) -> Outcome<Num> {
+pub fn steps(work: impl FnOnce() -> Num) -> Outcome<Num> {
     watch(work)
 }
 

@@ -16,4 +16,5 @@ pub mod ranges;
 pub mod raw;
 pub mod row;
 pub mod rules;
+pub mod searches;
 pub mod store;

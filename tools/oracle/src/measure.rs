@@ -32,7 +32,7 @@ impl Measures {
         let flipped = self.flipped(row, ruled);
         let places = match row.entry {
             8 => 0,
-            20..=24 => 10,
+            20..=24 | 26..=28 => 10,
             34 => 2,
             _ => 1,
         };
@@ -98,7 +98,7 @@ fn property(key: &Key) -> String {
         7 => BOUNDARIES[whole as usize].to_string(),
         9 => format!("v of {}", whole as u8 as char),
         11 => ["v of liquid", "v of steam"][whole as usize].to_string(),
-        20..=24 => FIELDS[place].to_string(),
+        20..=24 | 26..=28 => FIELDS[place].to_string(),
         34 => ["cp", "w"][place].to_string(),
         25 => PROPERTIES
             .iter()

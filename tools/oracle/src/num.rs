@@ -12,6 +12,20 @@ pub struct Num(pub f64);
 thread_local! {
     /// The first refusal since `watch` began, or 0.
     static KEPT: Cell<u8> = const { Cell::new(0) };
+    /// How often a search has asked since `count` began.
+    static ASKED: Cell<u32> = const { Cell::new(0) };
+}
+
+/// A search asks for its property.
+pub fn asked() {
+    ASKED.set(ASKED.get() + 1);
+}
+
+/// Does some work and answers what it gives, with how often a search asked in it.
+pub fn count<A>(work: impl FnOnce() -> A) -> (A, u32) {
+    ASKED.set(0);
+    let answer = work();
+    (answer, ASKED.get())
 }
 
 fn note(refusal: u8) {

@@ -6,6 +6,8 @@ pub type Range = (f64, f64);
 pub const P_BOX: Range = (16.529, 100.0);
 pub const T_BOX: Range = (623.15, 863.15);
 pub const D_BOX: Range = (100.0, 800.0);
+/// Of (p,v) it is 1/v that is held to d's range; these are the volumes at its ends.
+pub const V_BOX: Range = (0.00125, 0.01);
 pub const H_BOX: Range = (1500.0, 2900.0);
 pub const S_BOX: Range = (3.3, 5.3);
 
@@ -25,6 +27,7 @@ pub const STATE: u8 = 4;
 pub const STEP: u8 = 5;
 pub const PROPERTY: u8 = 6;
 pub const BORDER: u8 = 8;
+pub const UNFOUND: u8 = 15;
 
 /// No refusal of docs/SCOPE.md: the row names no entry, boundary, letter or phase.
 pub const NO_ENTRY: u8 = 255;

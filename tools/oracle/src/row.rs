@@ -10,7 +10,7 @@ pub const ANSWER: usize = 88;
 pub const FIELDS: [&str; 10] = ["T", "d", "v", "p", "h", "s", "u", "cv", "cp", "w"];
 
 /// The entries, by number and by the name that reports give them.
-pub const ENTRIES: [(u8, &str); 26] = [
+pub const ENTRIES: [(u8, &str); 32] = [
     (1, "power"),
     (2, "root"),
     (3, "logarithm"),
@@ -35,8 +35,14 @@ pub const ENTRIES: [(u8, &str); 26] = [
     (23, "(p,s) record"),
     (24, "(h,s) record"),
     (25, "property"),
+    (26, "(p,v) record"),
+    (27, "(T,h) record"),
+    (28, "(T,s) record"),
     (30, "column row"),
     (34, "cp and w"),
+    (35, "pv2T_reg3"),
+    (36, "Th2d_reg3"),
+    (37, "Ts2d_reg3"),
 ];
 
 /// The boundaries in the order of entry 7's whole number.
@@ -125,7 +131,7 @@ impl Row {
 pub struct Answer {
     pub refusal: u8,
     pub letter: u8,
-    /// what stands beside the refusal: of cp and w together, w's
+    /// what stands beside the refusal: of cp and w together, w's; of a search, its trials
     pub beside: u32,
     pub numbers: [f64; 10],
 }
@@ -136,6 +142,10 @@ impl Answer {
             refusal,
             ..Answer::default()
         }
+    }
+
+    pub fn beside(self, beside: u32) -> Answer {
+        Answer { beside, ..self }
     }
 
     pub fn number(x: f64) -> Answer {

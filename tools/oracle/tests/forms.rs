@@ -27,6 +27,8 @@ fn checked_is_ruled() {
             if row.entry == 30 && answer.letter == 0 {
                 ruled.letter = 0;
             }
+            // trials are counted in the checked form alone
+            ruled.beside = answer.beside;
             assert_eq!(answer.bytes(), ruled.bytes(), "{row:?}");
             accepted += 1;
         }
@@ -82,7 +84,7 @@ fn rewriting() {
     ));
     let taken = Form::Plain.rewrite(
         "region3",
-        "use a; #[x] pub fn pv_reg3() { b } #[x] pub fn pT_reg3() { Td_reg3() }",
+        "use a; #[x] pub fn tv_reg3() { b } #[x] pub fn pT_reg3() { Td_reg3() }",
     );
     assert_eq!(taken, "use a; #[x] pub fn pT_reg3() { Td_thermal_reg3() }");
 }

@@ -5,10 +5,10 @@ use Rattle.exported_calls.proofs.say_entries.Statement.{statement}
 use Rattle.exported_calls.proofs.say_entries.Tie as tie
 
 abbrev Inv-loop : tie.InvT-loop
-Inv-loop rows differ e₀ t4 e = e ≤ 35
+Inv-loop rows differ e₀ t4 e = e ≤ 38
 
 abbrev μ-loop : tie.MeasureT-loop
-μ-loop rows differ e₀ t4 e = 35 - e
+μ-loop rows differ e₀ t4 e = 38 - e
 
 pub say-entries-spec : {M : Type 1} → statement M
 say-entries-spec =

@@ -5,7 +5,7 @@ use super::points::{beside, Quantity, P_BANDS, P_SPLITS, SPECIAL, ZERO_BASES};
 use super::random::Random;
 use super::search::crossing;
 use super::states::{self, band_end, on_line, shape, LINES};
-use super::{nameless, rules};
+use super::{nameless, rules, searched};
 use crate::forms::ruled::{r3, r4};
 use crate::ranges::*;
 use crate::row::Row;
@@ -37,6 +37,11 @@ fn of_state(entry: u8, random: &mut Random) -> Vec<Row> {
             pairs.extend((0..150).filter_map(|_| states::line(entry, random)));
         }
         11 => pairs.extend(splits()),
+        26..=28 | 35..=37 => {
+            pairs.extend((0..150).filter_map(|_| searched::line(entry, random)));
+            pairs.retain(|&pair| !searched::endless(entry, pair));
+            pairs.extend(searched::odd(entry));
+        }
         _ => (),
     }
     pairs.extend(on_ends(entry));

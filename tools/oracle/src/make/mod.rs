@@ -7,6 +7,7 @@ mod random;
 pub mod records;
 mod rules;
 mod search;
+mod searched;
 mod states;
 
 use crate::row::{Row, ENTRIES};
@@ -83,6 +84,7 @@ fn any(entry: u8, random: &mut Random) -> Row {
     let mut row = match entry {
         0 => nameless(random),
         1..=4 => rules::any(entry, random),
+        26..=28 | 35..=37 => searched::any(entry, random),
         _ => states::any(entry, random),
     };
     // what an entry does not read may hold anything
@@ -131,7 +133,7 @@ fn nameless(random: &mut Random) -> Row {
     ];
     let mut whole = random.of(&wholes);
     if known(whole) {
-        row.entry = random.of(&[0, 17, 26, 27, 28, 29, 31, 32, 127, 128, 254, 255]);
+        row.entry = random.of(&[0, 17, 38, 39, 40, 29, 31, 32, 127, 128, 254, 255]);
         whole = random.below(3) as i32;
     }
     row.whole = whole;

@@ -23,6 +23,9 @@ pub fn shape(entry: u8) -> (Quantity, Option<Quantity>) {
         18 => (P, None),
         19 => (T, None),
         20 | 25 | 34 => (T, Some(D)),
+        26 | 35 => (P, Some(V)),
+        27 | 36 => (T, Some(H)),
+        28 | 37 => (T, Some(S)),
         _ => unreachable!("entry {entry} takes no state"),
     }
 }

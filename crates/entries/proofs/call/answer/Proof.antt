@@ -4,7 +4,7 @@ use mir.Syntax.{w32}
 use mir.ValLaws.{toZ-ofZ}
 use borrow.Author.Needs.{needs}
 use Rattle.reply.specs.Shape.{numberReply, letterReply, recordReply}
-use Rattle.entries.specs.Named.{rowReply, cpWReply}
+use Rattle.entries.specs.Named.{rowReply, cpWReply, foundReply, searchedReply}
 use Rattle.entries.specs.Entries.{replyRule}
 use Rattle.entries.proofs.call.answer.Statement.{statement}
 use Rattle.entries.proofs.call.answer.Tie as tie
@@ -117,6 +117,30 @@ returns-27 : tie.Need-returns-27
 unfolding replyRule
 returns-27 c = rw (c .before .before .enum-told27 .given .1) (c .cp-w-reply .ensures ∙ ap cpWReply (c .before .Td2cp-w-reg3 .ensures))
 
+returns-28 : tie.Need-returns-28
+unfolding replyRule
+returns-28 c = rw (c .before .before .before .enum-told28 .given .1) (c .searched-reply .ensures ∙ ap searchedReply (c .before .pv-reg3 .ensures))
+
+returns-29 : tie.Need-returns-29
+unfolding replyRule
+returns-29 c = rw (c .before .before .before .enum-told29 .given .1) (c .searched-reply2 .ensures ∙ ap searchedReply (c .before .Th-reg3 .ensures))
+
+returns-30 : tie.Need-returns-30
+unfolding replyRule
+returns-30 c = rw (c .before .before .before .enum-told30 .given .1) (c .searched-reply3 .ensures ∙ ap searchedReply (c .before .Ts-reg3 .ensures))
+
+returns-31 : tie.Need-returns-31
+unfolding replyRule
+returns-31 c = rw (c .before .before .enum-told31 .given .1) (c .found-reply .ensures ∙ ap foundReply (c .before .pv2T-reg3 .ensures))
+
+returns-32 : tie.Need-returns-32
+unfolding replyRule
+returns-32 c = rw (c .before .before .enum-told32 .given .1) (c .found-reply2 .ensures ∙ ap foundReply (c .before .Th2d-reg3 .ensures))
+
+returns-33 : tie.Need-returns-33
+unfolding replyRule
+returns-33 c = rw (c .before .before .enum-told33 .given .1) (c .found-reply3 .ensures ∙ ap foundReply (c .before .Ts2d-reg3 .ensures))
+
 pub answer-spec : {M : Type 1} → statement M
 answer-spec =
     tie.close
@@ -203,6 +227,27 @@ answer-spec =
     (λ c. search needs)
     (λ c κs. search needs)
     (λ c κs. search needs)
+    (λ c. search needs)
+    (λ c κs. search needs)
+    (λ c κs. search needs)
+    (λ c κs. search needs)
+    (λ c. search needs)
+    (λ c κs. search needs)
+    (λ c κs. search needs)
+    (λ c κs. search needs)
+    (λ c. search needs)
+    (λ c κs. search needs)
+    (λ c κs. search needs)
+    (λ c κs. search needs)
+    (λ c. search needs)
+    (λ c κs. search needs)
+    (λ c κs. search needs)
+    (λ c. search needs)
+    (λ c κs. search needs)
+    (λ c κs. search needs)
+    (λ c. search needs)
+    (λ c κs. search needs)
+    (λ c κs. search needs)
     returns
     returns-2
     returns-3
@@ -229,4 +274,10 @@ answer-spec =
     returns-24
     returns-25
     returns-26
-    returns-27)
+    returns-27
+    returns-28
+    returns-29
+    returns-30
+    returns-31
+    returns-32
+    returns-33)

@@ -5,11 +5,12 @@ use mathlib.Core.Bool.{true, false}
 use lib.Ieee.{Float, binary64, sub, lt, ofBits, round}
 use borrow.Author.Needs.{needs}
 use Rattle.common.specs.Outcome.{value, refused, check}
+use Rattle.common.specs.Formula.{sizeOf}
 use Rattle.common.specs.Decimal.{decimal, whole, scaled}
 use Rattle.common.specs.Constant.{T-TOL, P-TOL, TC-WATER, PC-WATER}
 use Rattle.common.proofs.Laws.{Lost, check-kept, check-lost}
 use Rattle.record.specs.declared.Origin.the-variants.{Critical}
-use Rattle.volume.specs.Volumes.{sizeOf, letteredAt, originAt}
+use Rattle.volume.specs.Volumes.{letteredAt, originAt}
 use Rattle.volume.proofs.region3_v_pT.origin_at.Statement.{statement}
 use Rattle.volume.proofs.region3_v_pT.origin_at.Tie as tie
 

@@ -1,0 +1,4 @@
+pub mod Distance
+pub mod Points
+pub mod Promise
+pub mod Unique

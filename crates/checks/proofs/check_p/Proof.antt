@@ -1,0 +1,23 @@
+-- `checks::check_p` meets its contract: T and d, then the property. Assumes nothing.
+use mathlib.Core.Path.{sym, ap, _∙_}
+use borrow.Author.Needs.{needs}
+use Rattle.common.proofs.Calls.{going-on, turned-away}
+use Rattle.checks.specs.Checks.{heldTo, checkPRule}
+use Rattle.checks.proofs.check_p.Statement.{statement}
+use Rattle.checks.proofs.check_p.Tie as tie
+
+returns : tie.Need-returns
+unfolding checkPRule
+returns c =
+    let s = c .before .before in
+    let a = s .before .before .before .args in
+    c .held .ensures ∙ ap (heldTo (a .p .0)) (c .before .state-p .ensures) ∙ sym (going-on (s .before .before .check-Td .ensures) _ (s .enum-told .given .1))
+
+returns-2 : tie.Need-returns-2
+unfolding checkPRule
+returns-2 c = sym (turned-away (c .before .before .before .check-Td .ensures) _ _ (c .before .k .given .1))
+
+pub check-p-spec : {M : Type 1} → statement M
+check-p-spec =
+    tie.close
+    (tie.spec (λ c κs. search needs) (λ c. search needs) (λ c κs. search needs) (λ c κs. search needs) (λ c. search needs) returns returns-2)

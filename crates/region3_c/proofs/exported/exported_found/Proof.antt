@@ -1,0 +1,13 @@
+-- `region3_c::exported::exported_found` meets its contract. Assumes nothing.
+use mathlib.Core.Path.{refl}
+use lib.Ieee.{ofBits}
+use borrow.Author.Needs.{needs}
+use Rattle.region3_c.proofs.exported.exported_found.Statement.{statement}
+use Rattle.region3_c.proofs.exported.exported_found.Tie as tie
+
+returns-2 : tie.Need-returns-2
+unfolding ofBits
+returns-2 c = rw (c .before .before .a2 .given .1) (c .number .ensures, refl, refl)
+
+pub exported-found-spec : {M : Type 1} → statement M
+exported-found-spec = tie.close (tie.spec (λ c. search needs) (λ c. search needs) (λ c. search needs) (λ c κs. search needs) returns-2)

@@ -1,0 +1,11 @@
+-- `region3_c::r3_pv2t` meets its contract. Assumes nothing.
+use borrow.Author.Needs.{needs}
+use Rattle.region3_c.proofs.Exports.{exported-found}
+use Rattle.region3_c.proofs.r3_pv2t.Statement.{statement}
+use Rattle.region3_c.proofs.r3_pv2t.Tie as tie
+
+returns : tie.Need-returns
+returns c = exported-found _ _ _ (c .before .before .before .pv2T-reg3 .ensures) (c .exported-found .ensures)
+
+pub r3-pv2t-spec : {M : Type 1} → statement M
+r3-pv2t-spec = tie.close (tie.spec (λ c κs. search needs) (λ c κs. search needs) returns)

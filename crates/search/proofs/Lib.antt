@@ -1,0 +1,4 @@
+pub mod Laws
+pub mod Answered
+pub mod TdRecord
+pub mod Unique

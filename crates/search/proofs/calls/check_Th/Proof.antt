@@ -1,0 +1,13 @@
+-- `search::check_Th` meets its contract: the ends of the ranges. Assumes nothing.
+use lib.Ieee.{ofBits, round}
+use borrow.Author.Needs.{needs}
+use Rattle.common.specs.Decimal.{decimal, whole, scaled}
+use Rattle.search.proofs.calls.check_Th.Statement.{statement}
+use Rattle.search.proofs.calls.check_Th.Tie as tie
+
+returns : tie.Need-returns
+unfolding ofBits decimal whole scaled round
+returns c = c .check-pair .ensures
+
+pub check-Th-spec : {M : Type 1} → statement M
+check-Th-spec = tie.close (tie.spec (λ c κs. search needs) returns)

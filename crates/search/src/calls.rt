@@ -1,0 +1,164 @@
+// The calls: the box, then what is found, then for three of them the record there.
+use crate::SearchedRecord;
+use common::D_FROM;
+use common::D_TO;
+use common::H_FROM;
+use common::H_TO;
+use common::KJPerKg;
+use common::KJPerKgK;
+use common::Kelvin;
+use common::KgPerM3;
+use common::M3PerKg;
+use common::MPa;
+use common::Refusal;
+use common::S_FROM;
+use common::S_TO;
+use common::T_FROM;
+use common::T_TO;
+use common::Verdict;
+use common::check_pair;
+use common::in_p;
+use common::is_finite;
+use common::ranged;
+use place::FoundAnswer;
+use place::found;
+use record::Record;
+use record::RecordAnswer;
+use record::refuse;
+use secant::Curve;
+use td_record::Pressure;
+use td_record::work_record;
+ghost use mathlib.Core.Path.{_≡_};
+ghost use Rattle.common.specs.Outcome.{refused};
+ghost use Rattle.common.specs.Answer.{numberOf, paperVerdict};
+ghost use Rattle.record.specs.Record.{paperRecord};
+ghost use Rattle.td_record.specs.Steps.{recordSteps};
+ghost use Rattle.td_record.specs.declared.Pressure.the-variants.{Worked};
+ghost use Rattle.place.specs.Found.{paperFound};
+ghost use Rattle.search.specs.Calls.{pvBox, ThBox, TsBox, pv2T-reg3Rule, Th2d-reg3Rule, Ts2d-reg3Rule, recordFound, withTrials, pvRule, ThRule, TsRule, paperSearched, reportSearched};
+
+// The checks of the three pairs. A volume is held to the range of its density, which is worked for that: 1/v of a v next to 0 is outside.
+pub fn check_pv(p: MPa, v: M3PerKg) -> Verdict
+    ensures { λ r. ⌜ paperVerdict r ≡ pvBox (p .0) (v .0) ⌝ }
+{
+    if is_finite(p.0) {
+        if is_finite(v.0) {
+            if in_p(p) {
+                if ranged(1.0 / v.0, D_FROM, D_TO) {
+                    return Verdict::Accepted;
+                }
+                return Verdict::Refused(Refusal::Second);
+            }
+            return Verdict::Refused(Refusal::First);
+        }
+    }
+    Verdict::Refused(Refusal::NotFinite)
+}
+
+pub fn check_Th(t: Kelvin, h: KJPerKg) -> Verdict
+    ensures { λ r. ⌜ paperVerdict r ≡ ThBox (t .0) (h .0) ⌝ }
+{
+    check_pair(t.0, T_FROM, T_TO, h.0, H_FROM, H_TO)
+}
+
+pub fn check_Ts(t: Kelvin, s: KJPerKgK) -> Verdict
+    ensures { λ r. ⌜ paperVerdict r ≡ TsBox (t .0) (s .0) ⌝ }
+{
+    check_pair(t.0, T_FROM, T_TO, s.0, S_FROM, S_TO)
+}
+
+// The T at p and v.
+pub fn pv2T_reg3(p: MPa, v: M3PerKg) -> FoundAnswer
+    ensures { λ r. ⌜ paperFound r ≡ pv2T-reg3Rule (p .0) (v .0) ⌝ }
+{
+    match check_pv(p, v) {
+        Verdict::Accepted => found(Curve::Isochore(1.0 / v.0), p.0),
+        Verdict::Refused(k) => FoundAnswer::Refused(k),
+    }
+}
+
+// The d at T and h.
+pub fn Th2d_reg3(t: Kelvin, h: KJPerKg) -> FoundAnswer
+    ensures { λ r. ⌜ paperFound r ≡ Th2d-reg3Rule (t .0) (h .0) ⌝ }
+{
+    match check_Th(t, h) {
+        Verdict::Accepted => found(Curve::Enthalpy(t.0), h.0),
+        Verdict::Refused(k) => FoundAnswer::Refused(k),
+    }
+}
+
+// The d at T and s.
+pub fn Ts2d_reg3(t: Kelvin, s: KJPerKgK) -> FoundAnswer
+    ensures { λ r. ⌜ paperFound r ≡ Ts2d-reg3Rule (t .0) (s .0) ⌝ }
+{
+    match check_Ts(t, s) {
+        Verdict::Accepted => found(Curve::Entropy(t.0), s.0),
+        Verdict::Refused(k) => FoundAnswer::Refused(k),
+    }
+}
+
+// A record with the trials that led to its state: none where it is refused.
+fn counted(a: RecordAnswer, trials: u32) -> SearchedRecord
+    ensures { λ r. ⌜ paperSearched r ≡ withTrials trials (paperRecord a) ⌝ }
+{
+    let verdict = a.verdict;
+    let record = a.record;
+    match verdict {
+        Verdict::Accepted => SearchedRecord {
+            verdict,
+            record,
+            trials,
+        },
+        Verdict::Refused(_) => SearchedRecord {
+            verdict,
+            record,
+            trials: 0,
+        },
+    }
+}
+
+// The record at a T and a d that were found, and a v, with the trials.
+fn record_at(given: Record, t: Kelvin, d: KgPerM3, v: f64, trials: u32) -> SearchedRecord
+    ensures { λ r. ⌜ paperSearched r ≡ reportSearched (recordFound (recordSteps (t .0) (d .0) v Worked) trials) ⌝ }
+{
+    counted(work_record(given, t, d, v, Pressure::Worked), trials)
+}
+
+fn refused_record(given: Record, k: Refusal) -> SearchedRecord
+    ensures { λ r. ⌜ paperSearched r ≡ reportSearched (refused (numberOf k)) ⌝ }
+{
+    counted(refuse(given, k), 0)
+}
+
+// The record at (p,v). Its v is 1/d, d being 1/v: not always the v that was asked.
+pub fn pv_reg3(given: Record, p: MPa, v: M3PerKg) -> SearchedRecord
+    ensures { λ r. ⌜ paperSearched r ≡ reportSearched (pvRule (p .0) (v .0)) ⌝ }
+{
+    match pv2T_reg3(p, v) {
+        FoundAnswer::Value(t, trials) => {
+            let d = 1.0 / v.0;
+            record_at(given, Kelvin(t), KgPerM3(d), 1.0 / d, trials)
+        }
+        FoundAnswer::Refused(k) => refused_record(given, k),
+    }
+}
+
+// The record at (T,h).
+pub fn Th_reg3(given: Record, t: Kelvin, h: KJPerKg) -> SearchedRecord
+    ensures { λ r. ⌜ paperSearched r ≡ reportSearched (ThRule (t .0) (h .0)) ⌝ }
+{
+    match Th2d_reg3(t, h) {
+        FoundAnswer::Value(d, trials) => record_at(given, t, KgPerM3(d), 1.0 / d, trials),
+        FoundAnswer::Refused(k) => refused_record(given, k),
+    }
+}
+
+// The record at (T,s).
+pub fn Ts_reg3(given: Record, t: Kelvin, s: KJPerKgK) -> SearchedRecord
+    ensures { λ r. ⌜ paperSearched r ≡ reportSearched (TsRule (t .0) (s .0)) ⌝ }
+{
+    match Ts2d_reg3(t, s) {
+        FoundAnswer::Value(d, trials) => record_at(given, t, KgPerM3(d), 1.0 / d, trials),
+        FoundAnswer::Refused(k) => refused_record(given, k),
+    }
+}
