@@ -6,7 +6,7 @@ use mathlib.Core.List.{List, [], _∷_}
 use lib.IntN.{ℤ, pos}
 use lib.Ieee.{Float, nan, binary64, mul}
 use lib.ListN.{getD}
-use Rattle.common.specs.Outcome.{Outcome, value, check, then, inside, zeroF}
+use Rattle.common.specs.Outcome.{Outcome, value, check, then, inside, orNan, zeroF}
 use Rattle.common.specs.Decimal.{negative, plus, minus, decimal}
 use Rattle.common.specs.Range.{pBox}
 use Rattle.common.specs.Sum.{total, rawTotal}
@@ -169,8 +169,12 @@ boundaryRule b p = then (pBox p) (λ _. boundaryOf b p)
 
 -- ---- sums with no check, of coefficients that stand beside their exponents
 
+-- by powers with no look at them, and by the rule's, a NaN for one that is refused
 abbrev pub rawTerm : Float → Row → Float
 rawTerm x (row i n) = mul binary64 n (rawPower x i)
+
+abbrev pub ruledTerm : Float → Row → Float
+ruledTerm x (row i n) = mul binary64 n (orNan (powerRule x i))
 
 -- the exponents and, from place k on, the coefficients
 abbrev pub beside : List ℤ → ℕ → List Float → List Row
@@ -179,7 +183,7 @@ beside (i ∷ is) k ns = row i (getD ns k nan) ∷ beside is (suc k) ns
 
 unfoldable pub rawSum : Float → List ℤ → List Float → Float
 unfolding rawTotal
-rawSum x is ns = rawTotal (rawTerm x) zeroF (beside is 0 ns)
+rawSum x is ns = rawTotal (ruledTerm x) zeroF (beside is 0 ns)
 
 abbrev pub cubicPowers : List ℤ
 cubicPowers = pos 0 ∷ pos 1 ∷ pos 2 ∷ pos 3 ∷ []

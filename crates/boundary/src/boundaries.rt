@@ -9,6 +9,8 @@ use common::check_only;
 use common::over;
 use common::settle;
 use rules::raw_logarithm;
+use rules::raw_power;
+use sizes::usual;
 ghost use mathlib.Core.Path.{_≡_};
 ghost use Rattle.common.specs.Outcome.{check, orNan};
 ghost use Rattle.common.specs.Answer.{paper};
@@ -99,24 +101,45 @@ const N3WX: [f64; 5] = [
     0.873371668682417e3,
 ];
 
-// The sums of equation 1, from +0.0 on, with each power as the power rule works it, from 1 on.
+// The sums of equation 1, from +0.0 on, with each power as the power rule works it, from 1 on. At a usual p no power can be lost.
 fn cubic(p: f64, row: [f64; 4]) -> f64
     ensures { λ r. ⌜ r ≡ rawSum p cubicPowers row ⌝ }
 {
-    let square = p * p;
-    0.0 + row[0] * 1.0 + row[1] * (1.0 * p) + row[2] * (1.0 * square) + row[3] * (1.0 * p * square)
+    if usual(p) {
+        let square = p * p;
+        0.0
+            + row[0] * 1.0
+            + row[1] * (1.0 * p)
+            + row[2] * (1.0 * square)
+            + row[3] * (1.0 * p * square)
+    } else {
+        0.0
+            + row[0] * raw_power(p, 0)
+            + row[1] * raw_power(p, 1)
+            + row[2] * raw_power(p, 2)
+            + row[3] * raw_power(p, 3)
+    }
 }
 
 fn quartic(p: f64, row: [f64; 5]) -> f64
     ensures { λ r. ⌜ r ≡ rawSum p quarticPowers row ⌝ }
 {
-    let square = p * p;
-    0.0
-        + row[0] * 1.0
-        + row[1] * (1.0 * p)
-        + row[2] * (1.0 * square)
-        + row[3] * (1.0 * p * square)
-        + row[4] * (1.0 * (square * square))
+    if usual(p) {
+        let square = p * p;
+        0.0
+            + row[0] * 1.0
+            + row[1] * (1.0 * p)
+            + row[2] * (1.0 * square)
+            + row[3] * (1.0 * p * square)
+            + row[4] * (1.0 * (square * square))
+    } else {
+        0.0
+            + row[0] * raw_power(p, 0)
+            + row[1] * raw_power(p, 1)
+            + row[2] * raw_power(p, 2)
+            + row[3] * raw_power(p, 3)
+            + row[4] * raw_power(p, 4)
+    }
 }
 
 // The sum of equation 2.
@@ -124,14 +147,23 @@ fn in_ln(p: f64, row: [f64; 5]) -> f64
     ensures { λ r. ⌜ r ≡ rawSum (orNan (logarithmRule p)) lnPowers row ⌝ }
 {
     let x = raw_logarithm(p);
-    let first = 1.0 * x;
-    let second = 1.0 * (x * x);
-    0.0
-        + row[0] * 1.0
-        + row[1] * first
-        + row[2] * second
-        + row[3] * over(1.0, first)
-        + row[4] * over(1.0, second)
+    if usual(x) {
+        let first = 1.0 * x;
+        let second = 1.0 * (x * x);
+        0.0
+            + row[0] * 1.0
+            + row[1] * first
+            + row[2] * second
+            + row[3] * over(1.0, first)
+            + row[4] * over(1.0, second)
+    } else {
+        0.0
+            + row[0] * raw_power(x, 0)
+            + row[1] * raw_power(x, 1)
+            + row[2] * raw_power(x, 2)
+            + row[3] * raw_power(x, -1)
+            + row[4] * raw_power(x, -2)
+    }
 }
 
 // The boundary's temperature; a number that is lost travels as itself.

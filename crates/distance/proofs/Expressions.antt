@@ -12,7 +12,7 @@ use lib.Pow.{pow-add, pow-pos}
 use lib.Ieee.{Float, binary64, add, sub, mul, neg}
 use lib.Ieee.Fits.{and-l, and-r}
 use lib.Ieee.Positive.{positive}
-use Rattle.common.specs.Outcome.{Outcome, finite, check, then, zeroF}
+use Rattle.common.specs.Outcome.{Outcome, check, then, zeroF}
 use Rattle.common.specs.Decimal.{scaled, decimal, tens, tenths}
 use Rattle.common.specs.Sum.{rawTotal, every}
 use Rattle.common.proofs.Laws.{mul-right, add-left, step}
@@ -22,7 +22,7 @@ use Rattle.rounding.proofs.Bound.{Ex, con, var, sum, product, float, exact, Sam
 use Rattle.rounding.proofs.Powers.{power-ex, power-float, power-exact, sum-ex, sum-float, sum-same}
 use Rattle.boundary.specs.Boundary as f64
 use Rattle.boundary.specs.Boundary.{inP, formOf, rawTerm, formRule, straight3ef}
-use Rattle.boundary.proofs.TableSums.{small, sum-check}
+use Rattle.boundary.proofs.TableSums.{Bare, small, sum-check}
 use Rattle.distance.specs.Exact.{Row, Form, tabled, straight, form, valueOf, Polynomial, cd, ef, gh, ij, jk, mn, qu, rx, uv, Q, lifted, gain, loss, polynomial, line}
 use Rattle.distance.specs.Distance.{kind}
 
@@ -116,8 +116,8 @@ abbrev pub ex : Form → Ex
 ex (tabled rows) = rows-ex rows
 ex straight = ef-ex
 
--- ---- the same floats
-rows-check : (p : Float) → finite p ≡ true → (rows : List Row) → T (every small (map rounded rows)) → formRule (inP (map rounded rows)) p ≡ check (float binary64 p (rows-ex rows))
+-- ---- the same floats, where no power of p is lost
+rows-check : (p : Float) → Bare p → (rows : List Row) → T (every small (map rounded rows)) → formRule (inP (map rounded rows)) p ≡ check (float binary64 p (rows-ex rows))
 unfolding rows-ex formRule
 rows-check p f rows t =
     sum-check p f (map rounded rows) t
@@ -157,7 +157,7 @@ abbrev pub taken : Form → Bool
 taken (tabled rows) = every small (map rounded rows)
 taken straight = true
 
-pub form-check : (g : Form) (p : Float) → finite p ≡ true → T (taken g) → formRule (inFloats g) p ≡ check (float binary64 p (ex g))
+pub form-check : (g : Form) (p : Float) → Bare p → T (taken g) → formRule (inFloats g) p ≡ check (float binary64 p (ex g))
 form-check (tabled rows) p f t = rows-check p f rows t
 form-check straight p f t = ef-check p
 

@@ -1,22 +1,25 @@
--- At a usual base no power up to 64 either way is lost, nor any r on its way: so the power with no look at any is the rule's. Assumes nothing.
+-- Where no r on the way to a power can be lost, the power with no look at any is the rule's: at bases that are neither small nor large, at 0, and so at usual
+-- ones. Assumes nothing.
 use mathlib.Core.Path.{_≡_, refl, sym, ap, _∙_, subst}
 use mathlib.Core.Bool.{Bool, true, false, not, _&&_}
 use mathlib.Core.List.{List, [], _∷_}
 use Prim.Native.Nat.{ℕ, zero, suc, _+_, _*_, _/_, _%_, _^_, _≤_, _<_}
-use native.Mathlib.Nat.{le-trans, le-of-eq, mul-le-mul-left}
+use native.Mathlib.Nat.{le-trans, le-of-eq, mul-le-mul-left, zero-add}
 use native.Mathlib.Omega.{arith}
 use lib.Dec.{eqb, leb}
 use lib.IntN.{ℤ, pos, negsuc, natAbs}
 use lib.Pow.{pow-mono}
 use lib.Ieee.{Float, nan, inf, fin, binary64, up, down, size, mul, div}
 use borrow.Author.Tests.{le-ltb, leb-true, eqb-true}
-use Rattle.common.specs.Outcome.{finite, check}
+use Rattle.common.specs.Outcome.{finite, check, orNan}
 use Rattle.common.specs.Formula.{lostOr}
 use Rattle.common.proofs.Formulas.{lostOr-finite}
+use Rattle.common.proofs.Laws.{never, check-kept}
 use Rattle.sizes.specs.Usual.{usualBase}
 use Rattle.sizes.proofs.Band.{Band, mul-band, inverse-band, usual-band}
 use Rattle.rules.specs.Power.{one, odd, lowest, bits, subnormal, isZero, powerRule}
 use Rattle.rules.specs.RawPower.{taken, overBits, rawByBits, bySignOf, rawBySign, rawPower, kept, keptPower}
+use Rattle.rules.proofs.Looks.{zero-kept}
 use Rattle.rules.proofs.Powers.{by-bits, power-kept}
 
 -- a normal number is left as it is
@@ -111,29 +114,62 @@ same-sign a (negsuc n) k r h b =
 one-band : Band 0 one
 one-band = record { kept = refl; least = omega arith; most = omega arith }
 
--- a usual base is finite
-pub usual-finite : (a : Float) → usualBase a ≡ true → finite a ≡ true
-usual-finite a u = usual-band a u .kept
-
 pub record SamePower (a : Float) (n : ℤ) : Type 0 where
   pub equal : keptPower a n ≡ rawPower a n
   pub whole : finite (rawPower a n) ≡ true
 
-same-power : (a : Float) (n : ℤ) → usualBase a ≡ true → leb (natAbs n) 64 ≡ true → SamePower a n
+same-power : (j : ℕ) (a : Float) (n : ℤ) → Band j a → leb (natAbs n) 64 ≡ true → j * natAbs n ≤ 1022 → SamePower a n
 unfolding keptPower rawPower
-same-power a n u small =
+same-power j a n b small far =
     let few : natAbs n ≤ 64 = leb-true (natAbs n) 64 small in
     let w = weight (bits (natAbs n)) in
-    let le : w ≤ natAbs n = weight-lowest (size (natAbs n)) (natAbs n) in
-    let fits : 0 + 15 * w ≤ 1022 = omega arith in
-    let s = same-bits a (bits (natAbs n)) 0 15 one a fits one-band (λ _. usual-band a u) in
-    let t = same-sign a n (0 + 15 * w) (overBits (kept a) one a (bits (natAbs n))) fits (s .band) in
+    let fits : 0 + j * w ≤ 1022 = le-trans (le-of-eq (zero-add (j * w))) (le-trans (mul-le-mul-left j (weight-lowest (size (natAbs n)) (natAbs n))) far) in
+    let s = same-bits a (bits (natAbs n)) 0 j one a fits one-band (λ _. b) in
+    let t = same-sign a n (0 + j * w) (overBits (kept a) one a (bits (natAbs n))) fits (s .band) in
     let e = ap (rawBySign n) (s .equal ∙ by-bits 31 one a (natAbs n) (omega arith)) in
     record { equal = t .equal ∙ e; whole = ap finite (sym e) ∙ t .whole }
 
--- the rule at a usual base and an n from -64 to 64
-pub power-usual : (a : Float) (n : ℤ) → usualBase a ≡ true → leb (natAbs n) 64 ≡ true → powerRule a n ≡ check (rawPower a n)
-power-usual a n u small = power-kept a n (usual-finite a u) small ∙ ap check (same-power a n u small .equal)
+-- ---- the law, for an n from -64 to 64: at a base from 2^-j to 2^j in size, where 2^(j*|n|) is a normal f64
 
-pub usual-whole : (a : Float) (n : ℤ) → usualBase a ≡ true → leb (natAbs n) 64 ≡ true → finite (rawPower a n) ≡ true
-usual-whole a n u small = same-power a n u small .whole
+pub power-band : (j : ℕ) (a : Float) (n : ℤ) → Band j a → leb (natAbs n) 64 ≡ true → j * natAbs n ≤ 1022 → powerRule a n ≡ check (rawPower a n)
+power-band j a n b small far = power-kept a n (b .kept) small ∙ ap check (same-power j a n b small far .equal)
+
+-- at 0, of which nothing is subnormal
+zero-bits : (a r x : Float) (bs : List Bool) → isZero a ≡ true → overBits (kept a) r x bs ≡ overBits (λ r. r) r x bs
+unfolding overBits
+zero-bits a r x [] z = refl
+zero-bits a r x (true ∷ bs) z =
+    ap (λ (y : Float). overBits (kept a) y (mul binary64 x x) bs) (sym (zero-kept a (mul binary64 r x) z)) ∙ zero-bits a (mul binary64 r x) (mul binary64 x x) bs z
+zero-bits a r x (false ∷ bs) z = zero-bits a r (mul binary64 x x) bs z
+
+zero-sign : (a : Float) (n : ℤ) (r : Float) → isZero a ≡ true → bySignOf (kept a) n r ≡ rawBySign n r
+zero-sign a (pos n) r z = refl
+zero-sign a (negsuc n) r z = ap (lostOr r) (sym (zero-kept a (div binary64 one r) z))
+
+zero-finite : (a : Float) → isZero a ≡ true → finite a ≡ true
+zero-finite nan z = never (sym z)
+zero-finite (inf s) z = never (sym z)
+zero-finite (fin s m e) z = refl
+
+pub power-zero : (a : Float) (n : ℤ) → isZero a ≡ true → leb (natAbs n) 64 ≡ true → powerRule a n ≡ check (rawPower a n)
+unfolding keptPower rawPower
+power-zero a n z small =
+    let few : natAbs n ≤ 64 = leb-true (natAbs n) 64 small in
+    power-kept a n (zero-finite a z) small
+    ∙ ap check (zero-sign a n (overBits (kept a) one a (bits (natAbs n))) z
+    ∙ ap (rawBySign n) (zero-bits a one a (bits (natAbs n)) z ∙ by-bits 31 one a (natAbs n) (omega arith)))
+
+-- at a usual base, for any such n
+far-enough : (n : ℕ) → n ≤ 64 → 15 * n ≤ 1022
+far-enough n h = omega arith
+
+pub usual-finite : (a : Float) → usualBase a ≡ true → finite a ≡ true
+usual-finite a u = usual-band a u .kept
+
+pub power-usual : (a : Float) (n : ℤ) → usualBase a ≡ true → leb (natAbs n) 64 ≡ true → powerRule a n ≡ check (rawPower a n)
+power-usual a n u small = power-band 15 a n (usual-band a u) small (far-enough (natAbs n) (leb-true (natAbs n) 64 small))
+
+-- and its raw form is the power with no look at it
+pub usual-raw : (a : Float) (n : ℤ) → usualBase a ≡ true → leb (natAbs n) 64 ≡ true → orNan (powerRule a n) ≡ rawPower a n
+usual-raw a n u small =
+    ap orNan (power-usual a n u small ∙ check-kept (rawPower a n) (same-power 15 a n (usual-band a u) small (far-enough (natAbs n) (leb-true (natAbs n) 64 small)) .whole))
