@@ -13,7 +13,9 @@ use lib.Ieee.Exact.{HasValue}
 use lib.Ieee.Fits.{up-pos}
 use borrow.Author.Tests.{leb-true, le-leb, eq-eqb}
 use Rattle.sizes.proofs.Band.{Band}
-use Rattle.rules.specs.Power.{isZero}
+use Rattle.common.specs.Outcome.{check}
+use Rattle.rules.specs.Power.{powerRule}
+use Rattle.rules.specs.RawPower.{rawPower}
 use Rattle.rules.proofs.Usual.{power-band, power-zero}
 use Rattle.boundary.proofs.TableSums.{Bare}
 use Rattle.distance.specs.Exact.{Q}
@@ -26,15 +28,15 @@ most : (A D P N Q : ℕ) → 0 < Q → A * Q ≡ P * D → P ≤ N * Q → A ≤
 most A D P N Q q e l = le-of-mul-le-mul-right (le-trans (le-of-eq e) (le-trans (mul-le-mul-right D l) (le-of-eq (mul-right-comm N Q D)))) q
 
 none : (m u Q D : ℕ) → 0 < u → 0 < Q → m * u * Q ≡ 0 * D → m ≡ 0
-none m u Q D U V e = elim (eq-zero-or-pos m) [ inl z ↦ z | inr p ↦ absurd (clash (m * u * Q) D (mul-pos (mul-pos p U) V) e) ]
+none m u Q D up-p q-p e = elim (eq-zero-or-pos m) [ inl z ↦ z | inr p ↦ absurd (clash (m * u * Q) D (mul-pos (mul-pos p up-p) q-p) e) ]
   where
     clash : (x D : ℕ) → 0 < x → x ≡ 0 * D → ⊥
     clash x D p e = omega arith
 
-pub bare-of : (p : Float) (P N : ℕ) → HasValue p false P Q → P ≤ N * Q → N ≤ 100 → Bare p
-bare-of nan P N h l few = absurd h
-bare-of (inf s) P N h l few = absurd h
-bare-of (fin s m e) P N h l few i small =
+kept-of : (p : Float) (P N : ℕ) → HasValue p false P Q → P ≤ N * Q → N ≤ 100 → (i : ℤ) → leb (natAbs i) 4 ≡ true → powerRule p i ≡ check (rawPower p i)
+kept-of nan P N h l few i small = absurd h
+kept-of (inf s) P N h l few i small = absurd h
+kept-of (fin s m e) P N h l few i small =
     let four : natAbs i ≤ 4 = leb-true (natAbs i) 4 small in
     let ok : leb (natAbs i) 64 ≡ true = le-leb (natAbs i) 64 (omega arith) in
     elim (eq-zero-or-pos P) [
@@ -47,3 +49,6 @@ bare-of (fin s m e) P N h l few i small =
   where
     hundred : 100 ≤ 2 ^ 48
     hundred = omega arith
+
+pub bare-of : (p : Float) (P N : ℕ) → HasValue p false P Q → P ≤ N * Q → N ≤ 100 → Bare p
+bare-of p P N h l few = kept-of p P N h l few
