@@ -14,6 +14,7 @@ REPOSITORY = Path(__file__).resolve().parent.parent
 L = 0.6931471805599453
 TOP = 0x7FF0000000000000
 SIGN = 0x8000000000000000
+SMALLEST = math.ldexp(1.0, -1022)
 
 
 def bits(x):
@@ -36,18 +37,26 @@ def power(a, n):
         return (1, 0.0)
     if not -64 <= n <= 64:
         return (3, 0.0)
-    r, left = 1.0, abs(n)
+
+    # of a base that is not 0, a number below the smallest normal one has lost digits
+    def lost(r):
+        return not math.isfinite(r) or base != 0.0 and abs(r) < SMALLEST
+
+    base, r, left = a, 1.0, abs(n)
     while left:
         if left & 1:
             r = r * a
+            if lost(r):
+                return (5, 0.0)
         left >>= 1
-        if left:
-            a = a * a
-    if not math.isfinite(r):
-        return (5, 0.0)
-    if n >= 0:
-        return (0, r)
-    return (5, 0.0) if r == 0.0 else finite(1.0 / r)
+        a = a * a
+    if n < 0:
+        if r == 0.0:
+            return (5, 0.0)
+        r = 1.0 / r
+        if lost(r):
+            return (5, 0.0)
+    return (0, r)
 
 
 def root(x):

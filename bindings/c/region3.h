@@ -49,7 +49,7 @@ enum {
     R3_FIRST = 2,       /* the first argument is outside its range */
     R3_SECOND = 3,      /* the second argument is outside its range */
     R3_STATE = 4,       /* a p, T or d of the state, worked out by the call, is outside its range */
-    R3_STEP = 5,        /* a step gives a number that is not finite, or a root of a negative or a logarithm of a number not above 0 is taken */
+    R3_STEP = 5,        /* a step gives a number that is not finite, a power has lost its digits, or a root of a negative or a logarithm of a number not above 0 is taken */
     R3_PROPERTY = 6,    /* the property's number is unknown */
     R3_COLUMNS = 7,     /* the columns are of unequal length */
     R3_BORDER = 8,      /* T is above the border with region 2 at p */
@@ -198,7 +198,7 @@ static __inline__ const char *r3_refusal_text(int number) {
     case R3_FIRST: return "the first argument is outside its range";
     case R3_SECOND: return "the second argument is outside its range";
     case R3_STATE: return "a p, T or d of the state, worked out by the call, is outside its range";
-    case R3_STEP: return "a step gives a number that is not finite, or a root of a negative or a logarithm of a number not above 0 is taken";
+    case R3_STEP: return "a step gives a number that is not finite, a power has lost its digits, or a root of a negative or a logarithm of a number not above 0 is taken";
     case R3_PROPERTY: return "the property's number is unknown";
     case R3_COLUMNS: return "the columns are of unequal length";
     case R3_BORDER: return "T is above the border with region 2 at p";

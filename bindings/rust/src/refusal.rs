@@ -15,7 +15,7 @@ pub enum Refusal {
     Second,
     /// 4: a p, T or d of the state, worked out by the call, is outside its range.
     State,
-    /// 5: a step gives a number that is not finite, or a root of a negative or a logarithm of a number not above 0 is taken.
+    /// 5: a step gives a number that is not finite, a power has lost its digits, or a root of a negative or a logarithm of a number not above 0 is taken.
     Step,
     /// 6: the property's number is unknown.
     Property,
@@ -98,7 +98,7 @@ impl fmt::Display for Refusal {
             Refusal::First => "the first argument is outside its range",
             Refusal::Second => "the second argument is outside its range",
             Refusal::State => "a p, T or d of the state, worked out by the call, is outside its range",
-            Refusal::Step => "a step gives a number that is not finite, or a root of a negative or a logarithm of a number not above 0 is taken",
+            Refusal::Step => "a step gives a number that is not finite, a power has lost its digits, or a root of a negative or a logarithm of a number not above 0 is taken",
             Refusal::Property => "the property's number is unknown",
             Refusal::Columns => "the columns are of unequal length",
             Refusal::Border => "T is above the border with region 2 at p",

@@ -2,11 +2,16 @@
 // which the printed tables take. A table is lent by its columns. `slopes` has the sums of differentiated terms, `polynomial` the Rust's calls.
 use common::is_finite;
 use common::least;
+use common::or_nan;
+use common::settle;
 use powers::power_in;
+use sizes::usual;
 ghost use mathlib.Core.Path.{_≡_};
+ghost use mathlib.Core.Bool.{_&&_};
 ghost use Prim.Native.Nat.{_≤_};
 ghost use lib.ListN.{length};
-ghost use Rattle.common.specs.Outcome.{orNan};
+ghost use Rattle.common.specs.Outcome.{check, orNan};
+ghost use Rattle.sizes.specs.Usual.{usualBase};
 ghost use Rattle.common.specs.Sum.{rawTotal};
 ghost use Rattle.algo.specs.Table.{rowsOf};
 ghost use Rattle.algo.specs.Raw.{rowsFrom, tabledTerm, Summed, gate};
@@ -28,6 +33,20 @@ pub enum Share {
     Ii,
     Ij,
     Jj,
+}
+
+// Whether no power of vi and none of vj can be lost.
+pub fn both_usual(vi: f64, vj: f64) -> bool
+    ensures { λ r. ⌜ r ≡ (usualBase vi && usualBase vj) ⌝ }
+{
+    if usual(vi) { usual(vj) } else { false }
+}
+
+// The number x, or a NaN where it is lost.
+pub fn checked_once(x: f64) -> f64
+    ensures { λ r. ⌜ r ≡ orNan (check x) ⌝ }
+{
+    or_nan(settle(x))
 }
 
 // The number x of finite vi and vj, or a NaN.

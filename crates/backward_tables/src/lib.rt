@@ -1,7 +1,10 @@
 // The tables of S03rev and S04rev by column, and the sum of each.
-use algo::gated;
+use algo::Order;
+use algo::both_usual;
+use algo::checked_once;
 use algo::plain_sum;
-use powers::fill_powers;
+use polynomial::raw_sum;
+use powers::fill_bare;
 ghost use mathlib.Core.Path.{_≡_};
 ghost use Rattle.common.specs.Outcome.{orNan};
 ghost use Rattle.algo.specs.Table.{sumRule, term};
@@ -1052,129 +1055,189 @@ const NP3B_HS: [f64; 35] = [
 pub fn sum_t3a_ph(x: f64, y: f64) -> f64
     ensures { λ r. ⌜ r ≡ orNan (sumRule term x y table-t3a-ph) ⌝ }
 {
-    let mut wi = [0.0; 129];
-    let mut wj = [0.0; 129];
+    if both_usual(x, y) {
+        let mut wi = [0.0; 129];
+        let mut wj = [0.0; 129];
+        let is = IT3A_PH;
+        let js = JT3A_PH;
+        let ns = NT3A_PH;
+        fill_bare(x, 12, 12, &mut wi);
+        fill_bare(y, 22, 0, &mut wj);
+        return checked_once(plain_sum(&wi, &wj, &is, &js, &ns));
+    }
     let is = IT3A_PH;
     let js = JT3A_PH;
     let ns = NT3A_PH;
-    fill_powers(x, 12, 12, &mut wi);
-    fill_powers(y, 22, 0, &mut wj);
-    gated(x, y, plain_sum(&wi, &wj, &is, &js, &ns))
+    raw_sum(Order::Zero, Order::Zero, x, y, &is, &js, &ns)
 }
 
 pub fn sum_t3b_ph(x: f64, y: f64) -> f64
     ensures { λ r. ⌜ r ≡ orNan (sumRule term x y table-t3b-ph) ⌝ }
 {
-    let mut wi = [0.0; 129];
-    let mut wj = [0.0; 129];
+    if both_usual(x, y) {
+        let mut wi = [0.0; 129];
+        let mut wj = [0.0; 129];
+        let is = IT3B_PH;
+        let js = JT3B_PH;
+        let ns = NT3B_PH;
+        fill_bare(x, 8, 12, &mut wi);
+        fill_bare(y, 16, 0, &mut wj);
+        return checked_once(plain_sum(&wi, &wj, &is, &js, &ns));
+    }
     let is = IT3B_PH;
     let js = JT3B_PH;
     let ns = NT3B_PH;
-    fill_powers(x, 8, 12, &mut wi);
-    fill_powers(y, 16, 0, &mut wj);
-    gated(x, y, plain_sum(&wi, &wj, &is, &js, &ns))
+    raw_sum(Order::Zero, Order::Zero, x, y, &is, &js, &ns)
 }
 
 pub fn sum_v3a_ph(x: f64, y: f64) -> f64
     ensures { λ r. ⌜ r ≡ orNan (sumRule term x y table-v3a-ph) ⌝ }
 {
-    let mut wi = [0.0; 129];
-    let mut wj = [0.0; 129];
+    if both_usual(x, y) {
+        let mut wi = [0.0; 129];
+        let mut wj = [0.0; 129];
+        let is = IV3A_PH;
+        let js = JV3A_PH;
+        let ns = NV3A_PH;
+        fill_bare(x, 8, 12, &mut wi);
+        fill_bare(y, 22, 0, &mut wj);
+        return checked_once(plain_sum(&wi, &wj, &is, &js, &ns));
+    }
     let is = IV3A_PH;
     let js = JV3A_PH;
     let ns = NV3A_PH;
-    fill_powers(x, 8, 12, &mut wi);
-    fill_powers(y, 22, 0, &mut wj);
-    gated(x, y, plain_sum(&wi, &wj, &is, &js, &ns))
+    raw_sum(Order::Zero, Order::Zero, x, y, &is, &js, &ns)
 }
 
 pub fn sum_v3b_ph(x: f64, y: f64) -> f64
     ensures { λ r. ⌜ r ≡ orNan (sumRule term x y table-v3b-ph) ⌝ }
 {
-    let mut wi = [0.0; 129];
-    let mut wj = [0.0; 129];
+    if both_usual(x, y) {
+        let mut wi = [0.0; 129];
+        let mut wj = [0.0; 129];
+        let is = IV3B_PH;
+        let js = JV3B_PH;
+        let ns = NV3B_PH;
+        fill_bare(x, 2, 12, &mut wi);
+        fill_bare(y, 10, 0, &mut wj);
+        return checked_once(plain_sum(&wi, &wj, &is, &js, &ns));
+    }
     let is = IV3B_PH;
     let js = JV3B_PH;
     let ns = NV3B_PH;
-    fill_powers(x, 2, 12, &mut wi);
-    fill_powers(y, 10, 0, &mut wj);
-    gated(x, y, plain_sum(&wi, &wj, &is, &js, &ns))
+    raw_sum(Order::Zero, Order::Zero, x, y, &is, &js, &ns)
 }
 
 pub fn sum_t3a_ps(x: f64, y: f64) -> f64
     ensures { λ r. ⌜ r ≡ orNan (sumRule term x y table-t3a-ps) ⌝ }
 {
-    let mut wi = [0.0; 129];
-    let mut wj = [0.0; 129];
+    if both_usual(x, y) {
+        let mut wi = [0.0; 129];
+        let mut wj = [0.0; 129];
+        let is = IT3A_PS;
+        let js = JT3A_PS;
+        let ns = NT3A_PS;
+        fill_bare(x, 10, 12, &mut wi);
+        fill_bare(y, 36, 0, &mut wj);
+        return checked_once(plain_sum(&wi, &wj, &is, &js, &ns));
+    }
     let is = IT3A_PS;
     let js = JT3A_PS;
     let ns = NT3A_PS;
-    fill_powers(x, 10, 12, &mut wi);
-    fill_powers(y, 36, 0, &mut wj);
-    gated(x, y, plain_sum(&wi, &wj, &is, &js, &ns))
+    raw_sum(Order::Zero, Order::Zero, x, y, &is, &js, &ns)
 }
 
 pub fn sum_t3b_ps(x: f64, y: f64) -> f64
     ensures { λ r. ⌜ r ≡ orNan (sumRule term x y table-t3b-ps) ⌝ }
 {
-    let mut wi = [0.0; 129];
-    let mut wj = [0.0; 129];
+    if both_usual(x, y) {
+        let mut wi = [0.0; 129];
+        let mut wj = [0.0; 129];
+        let is = IT3B_PS;
+        let js = JT3B_PS;
+        let ns = NT3B_PS;
+        fill_bare(x, 14, 12, &mut wi);
+        fill_bare(y, 24, 0, &mut wj);
+        return checked_once(plain_sum(&wi, &wj, &is, &js, &ns));
+    }
     let is = IT3B_PS;
     let js = JT3B_PS;
     let ns = NT3B_PS;
-    fill_powers(x, 14, 12, &mut wi);
-    fill_powers(y, 24, 0, &mut wj);
-    gated(x, y, plain_sum(&wi, &wj, &is, &js, &ns))
+    raw_sum(Order::Zero, Order::Zero, x, y, &is, &js, &ns)
 }
 
 pub fn sum_v3a_ps(x: f64, y: f64) -> f64
     ensures { λ r. ⌜ r ≡ orNan (sumRule term x y table-v3a-ps) ⌝ }
 {
-    let mut wi = [0.0; 129];
-    let mut wj = [0.0; 129];
+    if both_usual(x, y) {
+        let mut wi = [0.0; 129];
+        let mut wj = [0.0; 129];
+        let is = IV3A_PS;
+        let js = JV3A_PS;
+        let ns = NV3A_PS;
+        fill_bare(x, 6, 12, &mut wi);
+        fill_bare(y, 28, 0, &mut wj);
+        return checked_once(plain_sum(&wi, &wj, &is, &js, &ns));
+    }
     let is = IV3A_PS;
     let js = JV3A_PS;
     let ns = NV3A_PS;
-    fill_powers(x, 6, 12, &mut wi);
-    fill_powers(y, 28, 0, &mut wj);
-    gated(x, y, plain_sum(&wi, &wj, &is, &js, &ns))
+    raw_sum(Order::Zero, Order::Zero, x, y, &is, &js, &ns)
 }
 
 pub fn sum_v3b_ps(x: f64, y: f64) -> f64
     ensures { λ r. ⌜ r ≡ orNan (sumRule term x y table-v3b-ps) ⌝ }
 {
-    let mut wi = [0.0; 129];
-    let mut wj = [0.0; 129];
+    if both_usual(x, y) {
+        let mut wi = [0.0; 129];
+        let mut wj = [0.0; 129];
+        let is = IV3B_PS;
+        let js = JV3B_PS;
+        let ns = NV3B_PS;
+        fill_bare(x, 2, 12, &mut wi);
+        fill_bare(y, 12, 0, &mut wj);
+        return checked_once(plain_sum(&wi, &wj, &is, &js, &ns));
+    }
     let is = IV3B_PS;
     let js = JV3B_PS;
     let ns = NV3B_PS;
-    fill_powers(x, 2, 12, &mut wi);
-    fill_powers(y, 12, 0, &mut wj);
-    gated(x, y, plain_sum(&wi, &wj, &is, &js, &ns))
+    raw_sum(Order::Zero, Order::Zero, x, y, &is, &js, &ns)
 }
 
 pub fn sum_p3a_hs(x: f64, y: f64) -> f64
     ensures { λ r. ⌜ r ≡ orNan (sumRule term x y table-p3a-hs) ⌝ }
 {
-    let mut wi = [0.0; 129];
-    let mut wj = [0.0; 129];
+    if both_usual(x, y) {
+        let mut wi = [0.0; 129];
+        let mut wj = [0.0; 129];
+        let is = IP3A_HS;
+        let js = JP3A_HS;
+        let ns = NP3A_HS;
+        fill_bare(x, 32, 0, &mut wi);
+        fill_bare(y, 36, 0, &mut wj);
+        return checked_once(plain_sum(&wi, &wj, &is, &js, &ns));
+    }
     let is = IP3A_HS;
     let js = JP3A_HS;
     let ns = NP3A_HS;
-    fill_powers(x, 32, 0, &mut wi);
-    fill_powers(y, 36, 0, &mut wj);
-    gated(x, y, plain_sum(&wi, &wj, &is, &js, &ns))
+    raw_sum(Order::Zero, Order::Zero, x, y, &is, &js, &ns)
 }
 
 pub fn sum_p3b_hs(x: f64, y: f64) -> f64
     ensures { λ r. ⌜ r ≡ orNan (sumRule term x y table-p3b-hs) ⌝ }
 {
-    let mut wi = [0.0; 129];
-    let mut wj = [0.0; 129];
+    if both_usual(x, y) {
+        let mut wi = [0.0; 129];
+        let mut wj = [0.0; 129];
+        let is = IP3B_HS;
+        let js = JP3B_HS;
+        let ns = NP3B_HS;
+        fill_bare(x, 14, 12, &mut wi);
+        fill_bare(y, 20, 0, &mut wj);
+        return checked_once(plain_sum(&wi, &wj, &is, &js, &ns));
+    }
     let is = IP3B_HS;
     let js = JP3B_HS;
     let ns = NP3B_HS;
-    fill_powers(x, 14, 12, &mut wi);
-    fill_powers(y, 20, 0, &mut wj);
-    gated(x, y, plain_sum(&wi, &wj, &is, &js, &ns))
+    raw_sum(Order::Zero, Order::Zero, x, y, &is, &js, &ns)
 }

@@ -1,3 +1,4 @@
+mod Middle
 pub mod TableSums
 pub mod Limit
 pub mod Unique

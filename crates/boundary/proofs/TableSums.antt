@@ -1,86 +1,113 @@
--- A row walked with a check at each step is the row walked raw and checked once: one law over any row that passes a test, and the test computed
--- over the table. Assumes nothing.
+-- A row walked with a check at each step is the row walked raw and checked once: by the rule's powers one law over any row that has a term, and by powers
+-- with no look at them where those are the rule's; what the law wants of a row is computed over the table. Assumes nothing.
 use Prim.Native.Nat.{ℕ, zero, suc}
-use mathlib.Core.Path.{_≡_, refl, sym}
-use mathlib.Core.Bool.{Bool, true, false, _&&_}
+use mathlib.Core.Path.{_≡_, refl, sym, ap, _∙_}
+use mathlib.Core.Bool.{Bool, true, false}
 use mathlib.Core.List.{List, [], _∷_}
+use native.Mathlib.Nat.{le-trans}
+use native.Mathlib.Omega.{arith}
 use lib.Dec.{T, leb}
-use lib.IntN.{ℤ, pos, negsuc, natAbs}
-use lib.Ieee.{Float, nan, inf, fin, binary64, add, mul}
+use lib.IntN.{ℤ, natAbs}
+use lib.Ieee.{Float, nan, binary64, add, mul}
+use borrow.Author.Tests.{leb-true, le-leb}
 use Rattle.common.specs.Outcome.{Outcome, value, refused, finite, check, then, inside, orNan, zeroF}
 use Rattle.common.specs.Sum.{total, rawTotal, every}
-use Rattle.common.proofs.Laws.{Lost, mul-right, add-right, check-lost, inside-check, step}
-use Rattle.common.proofs.Sums.{total-check, total-lost, both-left, both-right, T-true}
-use Rattle.rules.specs.Power.{one, powerRule}
-use Rattle.rules.specs.RawPower.{rawPower, rawHigherBits}
+use Rattle.common.proofs.Laws.{mul-right, inside-check, raw-inside, step}
+use Rattle.common.proofs.Sums.{total-check, both-left, both-right, T-true}
+use Rattle.rules.specs.Power.{powerRule}
+use Rattle.rules.specs.RawPower.{rawPower, keptPower}
 use Rattle.rules.specs.Log.{logarithmRule}
-use Rattle.rules.proofs.Powers.{power-check}
+use Rattle.rules.proofs.Powers.{power-kept}
+use Rattle.rules.proofs.Usual.{usual-raw}
+use Rattle.sizes.specs.Usual.{usualBase}
 use Rattle.boundary.specs.Boundary.{Term, term, Argument, inP, inLn, Row, row, table, termRule, walkRule, at, rowAt}
-use Rattle.boundary.specs.Raw.{rawTerm, rawRow}
+use Rattle.boundary.specs.Raw.{argumentIn, rawArgument, rawTerm, rawSum, bareTerm, bareSum, Bare}
 
--- the power rule takes the term's exponent
+-- ---- powers with no look at them, where they are the rule's
+
+-- the term's exponent is from -4 to 4
 abbrev pub small : Term → Bool
-small (term i n) = leb (natAbs i) 64
+small (term i n) = leb (natAbs i) 4
 
-term-check : (x : Float) → finite x ≡ true → (t : Term) → T (small t) → termRule x t ≡ check (rawTerm x t)
-term-check x fx (term i n) h =
-    rw (power-check x i fx (T-true (leb (natAbs i) 64) h), inside-check (rawPower x i))
+bare-term : (x : Float) → Bare x → (t : Term) → T (small t) → termRule x t ≡ check (bareTerm x t)
+bare-term x bare (term i n) h =
+    rw (bare i (T-true (leb (natAbs i) 4) h), inside-check (rawPower x i))
     (step (rawPower x i) (λ w. check (mul binary64 n w)) (λ w. mul binary64 n w) (λ _. refl) (mul-right n (rawPower x i)))
 
-pub sum-check : (x : Float) → finite x ≡ true → (ts : List Term) → T (every small ts) → total (termRule x) zeroF ts ≡ check (rawTotal (rawTerm x) zeroF ts)
-sum-check x fx ts h = total-check (termRule x) (rawTerm x) small (term-check x fx) zeroF ts refl h
+pub sum-check : (x : Float) → Bare x → (ts : List Term) → T (every small ts) → total (termRule x) zeroF ts ≡ check (rawTotal (bareTerm x) zeroF ts)
+sum-check x bare ts h = total-check (termRule x) (bareTerm x) small (bare-term x bare) zeroF ts refl h
 
--- ---- A row's second exponent is 1. Of a lost x the first term is refused, and the second loses the raw sum: so the law holds of any x.
+-- ---- the rule's powers
 
-abbrev isOne : ℤ → Bool
-isOne (pos zero) = false
-isOne (pos (suc zero)) = true
-isOne (pos (suc (suc k))) = false
-isOne (negsuc k) = false
+settled : (x : Float) (i : ℤ) (f s : Bool) → finite x ≡ f → leb (natAbs i) 64 ≡ s → check (orNan (powerRule x i)) ≡ inside (powerRule x i)
+unfolding powerRule
+settled x i false s e d = rw e
+settled x i true false e d = rw (e, d)
+settled x i true true e d = raw-inside (powerRule x i) (keptPower x i) (power-kept x i e d)
 
-abbrev linear : List Term → Bool
-linear [] = false
-linear (t ∷ []) = false
-linear (t ∷ term i n ∷ ts) = isOne i
+abbrev any : Term → Bool
+any t = true
 
-sum-lost : (x : Float) (ts : List Term) → T (linear ts) → Lost x → Lost (rawTotal (rawTerm x) zeroF ts)
-unfolding rawTotal rawPower rawHigherBits
-sum-lost x [] h l = absurd h
-sum-lost x (t ∷ []) h l = absurd h
-sum-lost x (t ∷ term (pos zero) n ∷ ts) h l = absurd h
-sum-lost x (t ∷ term (pos (suc zero)) n ∷ ts) h l =
-    let s = add binary64 zeroF (rawTerm x t) in
-    let u = rawTerm x (term (pos 1) n) in
-    total-lost (rawTerm x) (add binary64 s u) ts (add-right s u (mul-right n (mul binary64 one x) (mul-right one x l)))
-sum-lost x (t ∷ term (pos (suc (suc k))) n ∷ ts) h l = absurd h
-sum-lost x (t ∷ term (negsuc k) n ∷ ts) h l = absurd h
+any-term : (x : Float) (t : Term) → T (any t) → termRule x t ≡ check (rawTerm x t)
+any-term x (term i n) h =
+    rw (sym (settled x i (finite x) (leb (natAbs i) 64) refl refl))
+    (step (orNan (powerRule x i)) (λ w. check (mul binary64 n w)) (λ w. mul binary64 n w) (λ _. refl) (mul-right n (orNan (powerRule x i))))
 
-abbrev sound : Row → Bool
-sound (row a ts) = linear ts && every small ts
+always : (ts : List Term) → T (every any ts)
+unfolding every
+always [] = tt
+always (t ∷ ts) = always ts
 
-module _ (i : ℤ) (n : Float) (ts : List Term) (l : T (linear (term i n ∷ ts))) (f : T (every small (term i n ∷ ts))) where
-  any-sum : (x : Float) → total (termRule x) zeroF (term i n ∷ ts) ≡ check (rawTotal (rawTerm x) zeroF (term i n ∷ ts))
-  unfolding total powerRule
-  any-sum nan = sym (check-lost (rawTotal (rawTerm nan) zeroF (term i n ∷ ts)) (sum-lost nan (term i n ∷ ts) l refl))
-  any-sum (inf s) = sym (check-lost (rawTotal (rawTerm (inf s)) zeroF (term i n ∷ ts)) (sum-lost (inf s) (term i n ∷ ts) l refl))
-  any-sum (fin s m e) = sum-check (fin s m e) refl (term i n ∷ ts) f
+any-sum : (x : Float) (ts : List Term) → total (termRule x) zeroF ts ≡ check (rawTotal (rawTerm x) zeroF ts)
+any-sum x ts = total-check (termRule x) (rawTerm x) any (any-term x) zeroF ts refl (always ts)
 
-  -- of the number that an outcome holds, or else a NaN
-  of-outcome : (o : Outcome Float) → then (inside o) (λ x. total (termRule x) zeroF (term i n ∷ ts)) ≡ check (rawTotal (rawTerm (orNan o)) zeroF (term i n ∷ ts))
-  of-outcome (value x) = any-sum x
-  of-outcome (refused k) = sym (check-lost (rawTotal (rawTerm nan) zeroF (term i n ∷ ts)) (sum-lost nan (term i n ∷ ts) l refl))
+-- of the number that an outcome holds, or else a NaN, of which the first power is refused
+of-outcome : (i : ℤ) (n : Float) (ts : List Term) (o : Outcome Float) →
+    then (inside o) (λ x. total (termRule x) zeroF (term i n ∷ ts)) ≡ check (rawTotal (rawTerm (orNan o)) zeroF (term i n ∷ ts))
+unfolding total powerRule
+of-outcome i n ts (value x) = any-sum x (term i n ∷ ts)
+of-outcome i n ts (refused k) = any-sum nan (term i n ∷ ts)
 
-  of-row : (a : Argument) (p : Float) → check (rawRow (row a (term i n ∷ ts)) p) ≡ walkRule (row a (term i n ∷ ts)) p
-  unfolding rawRow walkRule
-  of-row inP p = sym (any-sum p)
-  of-row inLn p = sym (of-outcome (logarithmRule p))
+-- a row that has a term
+abbrev filled : Row → Bool
+filled (row a []) = false
+filled (row a (t ∷ ts)) = true
 
-pub row-check : (r : Row) (p : Float) → T (sound r) → check (rawRow r p) ≡ walkRule r p
+pub row-check : (r : Row) (p : Float) → T (filled r) → check (rawSum r (rawArgument (argumentIn r) p)) ≡ walkRule r p
+unfolding rawSum walkRule
 row-check (row a []) p h = absurd h
-row-check (row a (term i n ∷ ts)) p h =
-    let l = linear (term i n ∷ ts) in
-    let f = every small (term i n ∷ ts) in
-    of-row i n ts (both-left l f h) (both-right l f h) a p
+row-check (row inP (t ∷ ts)) p h = sym (any-sum p (t ∷ ts))
+row-check (row inLn (term i n ∷ ts)) p h = sym (of-outcome i n ts (logarithmRule p))
+
+-- ---- the two walks at a usual x
+
+usual-term : (x : Float) → usualBase x ≡ true → (t : Term) → T (small t) → bareTerm x t ≡ rawTerm x t
+usual-term x u (term i n) h = ap (mul binary64 n) (sym (usual-raw x i u (le-leb (natAbs i) 64 (le-trans (leb-true (natAbs i) 4 (T-true (leb (natAbs i) 4) h)) (omega arith)))))
+
+usual-total : (x : Float) → usualBase x ≡ true → (z : Float) (ts : List Term) → T (every small ts) → rawTotal (bareTerm x) z ts ≡ rawTotal (rawTerm x) z ts
+unfolding rawTotal every
+usual-total x u z [] h = refl
+usual-total x u z (t ∷ ts) h =
+    ap (λ (w : Float). rawTotal (bareTerm x) (add binary64 z w) ts) (usual-term x u t (both-left (small t) (every small ts) h))
+    ∙ usual-total x u (add binary64 z (rawTerm x t)) ts (both-right (small t) (every small ts) h)
+
+abbrev few : Row → Bool
+few (row a ts) = every small ts
+
+pub usual-sum : (r : Row) (x : Float) → usualBase x ≡ true → T (few r) → bareSum r x ≡ rawSum r x
+unfolding rawSum bareSum
+usual-sum (row a ts) x u h = usual-total x u zeroF ts h
+
+-- ---- a row in p by powers with no look at them
+
+abbrev plain : Row → Bool
+plain (row inP ts) = every small ts
+plain (row inLn ts) = false
+
+plain-check : (r : Row) (p : Float) → Bare p → T (plain r) → check (bareSum r p) ≡ walkRule r p
+unfolding bareSum walkRule
+plain-check (row inP ts) p bare h = sym (sum-check p bare ts h)
+plain-check (row inLn ts) p bare h = absurd h
 
 -- ---- the table
 
@@ -88,13 +115,49 @@ abbrev some : List Row → Bool
 some [] = false
 some (r ∷ rs) = true
 
-at-sound : (rs : List Row) (k : ℕ) → T (some rs) → T (every sound rs) → T (sound (at rs k))
+-- a test that each row of a list passes, the row at any place passes
+at-every : (test : Row → Bool) (rs : List Row) (k : ℕ) → T (some rs) → T (every test rs) → T (test (at rs k))
 unfolding every
-at-sound [] k f h = absurd f
-at-sound (r ∷ []) k f h = both-left (sound r) true h
-at-sound (r ∷ s ∷ rs) zero f h = both-left (sound r) (every sound (s ∷ rs)) h
-at-sound (r ∷ s ∷ rs) (suc k) f h = at-sound (s ∷ rs) k tt (both-right (sound r) (every sound (s ∷ rs)) h)
+at-every test [] k f h = absurd f
+at-every test (r ∷ []) k f h = both-left (test r) true h
+at-every test (r ∷ s ∷ rs) zero f h = both-left (test r) (every test (s ∷ rs)) h
+at-every test (r ∷ s ∷ rs) (suc k) f h = at-every test (s ∷ rs) k tt (both-right (test r) (every test (s ∷ rs)) h)
 
-pub table-sound : (k : ℕ) → T (sound (rowAt k))
+pub table-filled : (k : ℕ) → T (filled (rowAt k))
 unfolding table rowAt every
-table-sound k = at-sound table k tt tt
+table-filled k = at-every filled table k tt tt
+
+pub table-few : (k : ℕ) → T (few (rowAt k))
+unfolding table rowAt every
+table-few k = at-every few table k tt tt
+
+-- the places of the rows in p
+abbrev pub inPAt : ℕ → Bool
+inPAt zero = false
+inPAt (suc zero) = true
+inPAt (suc (suc zero)) = true
+inPAt (suc (suc (suc zero))) = true
+inPAt (suc (suc (suc (suc zero)))) = true
+inPAt (suc (suc (suc (suc (suc zero))))) = true
+inPAt (suc (suc (suc (suc (suc (suc zero)))))) = false
+inPAt (suc (suc (suc (suc (suc (suc (suc zero))))))) = true
+inPAt (suc (suc (suc (suc (suc (suc (suc (suc zero)))))))) = true
+inPAt (suc (suc (suc (suc (suc (suc (suc (suc (suc zero))))))))) = true
+inPAt (suc (suc (suc (suc (suc (suc (suc (suc (suc (suc k)))))))))) = false
+
+plain-at : (k : ℕ) → T (inPAt k) → T (plain (rowAt k))
+unfolding table rowAt every
+plain-at zero h = absurd h
+plain-at (suc zero) h = tt
+plain-at (suc (suc zero)) h = tt
+plain-at (suc (suc (suc zero))) h = tt
+plain-at (suc (suc (suc (suc zero)))) h = tt
+plain-at (suc (suc (suc (suc (suc zero))))) h = tt
+plain-at (suc (suc (suc (suc (suc (suc zero)))))) h = absurd h
+plain-at (suc (suc (suc (suc (suc (suc (suc zero))))))) h = tt
+plain-at (suc (suc (suc (suc (suc (suc (suc (suc zero)))))))) h = tt
+plain-at (suc (suc (suc (suc (suc (suc (suc (suc (suc zero))))))))) h = tt
+plain-at (suc (suc (suc (suc (suc (suc (suc (suc (suc (suc k)))))))))) h = absurd h
+
+pub in-p : (k : ℕ) (p r : Float) → Bare p → T (inPAt k) → r ≡ bareSum (rowAt k) p → check r ≡ walkRule (rowAt k) p
+in-p k p r bare h e = ap check e ∙ plain-check (rowAt k) p bare (plain-at k h)

@@ -1,11 +1,14 @@
--- Helps proofs only: a row of the code as a row of the table, and the walk with no check. Assumes nothing: these are definitions.
+-- Helps proofs only: a row of the code as a row of the table, and the walk with no check, by the rule's powers and by powers with no look at them. Assumes nothing: these are definitions.
 use Prim.Native.Nat.{ℕ}
 use mathlib.Core.Bool.{Bool, true, false, cond}
 use mathlib.Core.List.{List, [], _∷_}
-use lib.Dec.{eqb}
+use mathlib.Core.Path.{_≡_}
+use lib.Dec.{eqb, leb}
+use lib.IntN.{ℤ, natAbs}
 use lib.Ieee.{Float, binary64, mul}
-use Rattle.common.specs.Outcome.{orNan, zeroF}
+use Rattle.common.specs.Outcome.{check, orNan, zeroF}
 use Rattle.common.specs.Sum.{rawTotal}
+use Rattle.rules.specs.Power.{powerRule}
 use Rattle.rules.specs.RawPower.{rawPower}
 use Rattle.rules.specs.Log.{logarithmRule}
 use Rattle.boundary.specs.Boundary as paper
@@ -27,13 +30,29 @@ printed r = row (argumentOf (r .ln)) (term (r .i1) (r .n1) ∷ term (r .i2) (r .
 
 -- ---- the walk: a lost number is the result
 
-abbrev pub rawTerm : Float → Term → Float
-rawTerm x (term i n) = mul binary64 n (rawPower x i)
-
 abbrev pub rawArgument : Argument → Float → Float
 rawArgument inP p = p
 rawArgument inLn p = orNan (logarithmRule p)
 
-unfoldable pub rawRow : paper.Row → Float → Float
+abbrev pub argumentIn : paper.Row → Argument
+argumentIn (row a ts) = a
+
+-- by the rule's powers, a NaN for one that is refused
+abbrev pub rawTerm : Float → Term → Float
+rawTerm x (term i n) = mul binary64 n (orNan (powerRule x i))
+
+unfoldable pub rawSum : paper.Row → Float → Float
 unfolding rawTotal
-rawRow (row a ts) p = rawTotal (rawTerm (rawArgument a p)) zeroF ts
+rawSum (row a ts) x = rawTotal (rawTerm x) zeroF ts
+
+-- by powers with no look at them
+abbrev pub bareTerm : Float → Term → Float
+bareTerm x (term i n) = mul binary64 n (rawPower x i)
+
+unfoldable pub bareSum : paper.Row → Float → Float
+unfolding rawTotal
+bareSum (row a ts) x = rawTotal (bareTerm x) zeroF ts
+
+-- x at which these are the rule's, as far as a row goes
+abbrev pub Bare : Float → Type 0
+Bare x = (i : ℤ) → leb (natAbs i) 4 ≡ true → powerRule x i ≡ check (rawPower x i)

@@ -1,4 +1,6 @@
-// The bands by p. Each works its boundaries out, tests once that none is lost, and hands them to its chooser.
+// The bands by p. Each works its boundaries out, tests once that none is lost, and hands them to its chooser. Between 19 and 25 MPa no power of p can
+// be lost: the bands there, which the narrow rows near the critical point take, work the rows in p with no look at the powers.
+use crate::boundaries::bare_tabled;
 use crate::boundaries::straight;
 use crate::boundaries::tabled;
 use crate::table;
@@ -27,6 +29,7 @@ ghost use mathlib.Core.Path.{_≡_};
 ghost use Rattle.common.specs.Outcome.{finite};
 ghost use Rattle.common.specs.Sum.{every};
 ghost use Rattle.subregion.specs.Letter.{paperLetter};
+ghost use Rattle.boundary.specs.Raw.{Bare};
 ghost use Rattle.boundary.specs.Choice.{abRule, cdefRule, chijkRule, clmnopjkRule, nearRule, cq-rkRule, csrkRule, cstRule, ctRule, letterAt, letterRule};
 
 // p_saturation(643.15).
@@ -69,13 +72,13 @@ fn band_cdef(p: f64, t: f64) -> LetterAnswer
 }
 
 fn band_chijk(second: Letter, p: f64, t: f64) -> LetterAnswer
-    ensures { λ r. ⌜ paperLetter r ≡ chijkRule second p t ⌝ }
+    ensures { λ r. ⌜ (Bare p → paperLetter r ≡ chijkRule second p t) ⌝ }
 {
-    let tcd = tabled(table::CD, p);
+    let tcd = bare_tabled(table::CD, p);
     let tef = straight(p);
-    let tgh = tabled(table::GH, p);
-    let tij = tabled(table::IJ, p);
-    let tjk = tabled(table::JK, p);
+    let tgh = bare_tabled(table::GH, p);
+    let tij = bare_tabled(table::IJ, p);
+    let tjk = bare_tabled(table::JK, p);
     if all_finite(&[tcd, tef, tgh, tij, tjk]) {
         return LetterAnswer::Value(by_chijk(
             second,
@@ -91,14 +94,14 @@ fn band_chijk(second: Letter, p: f64, t: f64) -> LetterAnswer
 }
 
 fn band_clmnopjk(p: f64, t: f64) -> LetterAnswer
-    ensures { λ r. ⌜ paperLetter r ≡ clmnopjkRule p t ⌝ }
+    ensures { λ r. ⌜ (Bare p → paperLetter r ≡ clmnopjkRule p t) ⌝ }
 {
-    let tcd = tabled(table::CD, p);
+    let tcd = bare_tabled(table::CD, p);
     let tef = straight(p);
-    let tgh = tabled(table::GH, p);
-    let tij = tabled(table::IJ, p);
-    let tjk = tabled(table::JK, p);
-    let tmn = tabled(table::MN, p);
+    let tgh = bare_tabled(table::GH, p);
+    let tij = bare_tabled(table::IJ, p);
+    let tjk = bare_tabled(table::JK, p);
+    let tmn = bare_tabled(table::MN, p);
     let top = tabled(table::OP, p);
     if all_finite(&[tcd, tef, tgh, tij, tjk, tmn, top]) {
         return LetterAnswer::Value(by_clmnopjk(
@@ -116,10 +119,10 @@ fn band_clmnopjk(p: f64, t: f64) -> LetterAnswer
 }
 
 fn band_csrk(p: f64, t: f64) -> LetterAnswer
-    ensures { λ r. ⌜ paperLetter r ≡ csrkRule p t ⌝ }
+    ensures { λ r. ⌜ (Bare p → paperLetter r ≡ csrkRule p t) ⌝ }
 {
-    let tcd = tabled(table::CD, p);
-    let tjk = tabled(table::JK, p);
+    let tcd = bare_tabled(table::CD, p);
+    let tjk = bare_tabled(table::JK, p);
     let tsat = raw_T_saturation(MPa(p));
     if all_finite(&[tcd, tjk, tsat]) {
         return LetterAnswer::Value(by_csrk(Kelvin(tcd), Kelvin(tsat), Kelvin(tjk), Kelvin(t)));
@@ -128,9 +131,9 @@ fn band_csrk(p: f64, t: f64) -> LetterAnswer
 }
 
 fn band_cst(p: f64, t: f64) -> LetterAnswer
-    ensures { λ r. ⌜ paperLetter r ≡ cstRule p t ⌝ }
+    ensures { λ r. ⌜ (Bare p → paperLetter r ≡ cstRule p t) ⌝ }
 {
-    let tcd = tabled(table::CD, p);
+    let tcd = bare_tabled(table::CD, p);
     let tsat = raw_T_saturation(MPa(p));
     if all_finite(&[tcd, tsat]) {
         return LetterAnswer::Value(by_cst(Kelvin(tcd), Kelvin(tsat), Kelvin(t)));
@@ -150,9 +153,9 @@ fn band_ct(p: f64, t: f64) -> LetterAnswer
 
 // The small regions round the critical point.
 fn band_near(p: f64, t: f64) -> LetterAnswer
-    ensures { λ r. ⌜ paperLetter r ≡ nearRule p t ⌝ }
+    ensures { λ r. ⌜ (Bare p → paperLetter r ≡ nearRule p t) ⌝ }
 {
-    let tuv = tabled(table::UV, p);
+    let tuv = bare_tabled(table::UV, p);
     let twx = tabled(table::WX, p);
     let tef = straight(p);
     if all_finite(&[tuv, twx, tef]) {
@@ -178,12 +181,12 @@ fn band_near(p: f64, t: f64) -> LetterAnswer
 }
 
 fn band_cq_rk(p: f64, t: f64) -> LetterAnswer
-    ensures { λ r. ⌜ paperLetter r ≡ cq-rkRule p t ⌝ }
+    ensures { λ r. ⌜ (Bare p → paperLetter r ≡ cq-rkRule p t) ⌝ }
 {
-    let tcd = tabled(table::CD, p);
-    let tqu = tabled(table::QU, p);
-    let trx = tabled(table::RX, p);
-    let tjk = tabled(table::JK, p);
+    let tcd = bare_tabled(table::CD, p);
+    let tqu = bare_tabled(table::QU, p);
+    let trx = bare_tabled(table::RX, p);
+    let tjk = bare_tabled(table::JK, p);
     if all_finite(&[tcd, tqu, trx, tjk]) {
         match round_critical(
             Kelvin(tcd),

@@ -10,13 +10,15 @@ use common::P_TO;
 use common::Verdict;
 use common::check_only;
 use common::settle;
+use rules::bare_power;
 use rules::raw_logarithm;
 use rules::raw_power;
+use sizes::usual;
 ghost use mathlib.Core.Path.{_≡_};
 ghost use Rattle.common.specs.Outcome.{check};
 ghost use Rattle.common.specs.Answer.{paper};
 ghost use Rattle.boundary.specs.Boundary.{term, walkRule, rowAt, straight3ef, boundaryOf, boundaryRule};
-ghost use Rattle.boundary.specs.Raw.{argumentOf, printed, rawTerm, rawArgument, rawRow};
+ghost use Rattle.boundary.specs.Raw.{argumentOf, printed, rawArgument, rawTerm, rawSum, bareTerm, bareSum};
 
 // What a row's sum is in.
 fn argument(ln: bool, p: f64) -> f64
@@ -25,18 +27,17 @@ fn argument(ln: bool, p: f64) -> f64
     if ln { raw_logarithm(p) } else { p }
 }
 
-// n * x^I
+// n * x^I, the power with no look at it.
 fn worked(n: f64, x: f64, i: i32) -> f64
-    ensures { λ r. ⌜ r ≡ rawTerm x (term i n) ⌝ }
+    ensures { λ r. ⌜ r ≡ bareTerm x (term i n) ⌝ }
 {
-    n * raw_power(x, i)
+    n * bare_power(x, i)
 }
 
 // The walk over a row: from +0.0 on its terms are added in their order.
-fn walk(row: Row, p: f64) -> f64
-    ensures { λ r. ⌜ r ≡ rawRow (printed row) p ⌝ }
+fn walk(row: Row, x: f64) -> f64
+    ensures { λ r. ⌜ r ≡ bareSum (printed row) x ⌝ }
 {
-    let x = argument(row.ln, p);
     let four = 0.0
         + worked(row.n1, x, row.i1)
         + worked(row.n2, x, row.i2)
@@ -49,11 +50,52 @@ fn walk(row: Row, p: f64) -> f64
     }
 }
 
-// The temperature by the row at place k; a number that is lost travels as itself.
+// The row at place k walked at x, which is p or ln p; a number that is lost travels as itself.
+pub fn bare_tabled(k: usize, x: f64) -> f64
+    ensures { λ r. ⌜ r ≡ bareSum (rowAt k) x ⌝ }
+{
+    walk(row_at(k), x)
+}
+
+// n * x^I by the rule's power.
+fn ruled(n: f64, x: f64, i: i32) -> f64
+    ensures { λ r. ⌜ r ≡ rawTerm x (term i n) ⌝ }
+{
+    n * raw_power(x, i)
+}
+
+// The walk by the rule's powers, for an x at which one may be lost. It stands apart, so that the compiler sees the other alone.
+fn walk_by_rule(row: Row, x: f64) -> f64
+    ensures { λ r. ⌜ r ≡ rawSum (printed row) x ⌝ }
+{
+    let four = 0.0
+        + ruled(row.n1, x, row.i1)
+        + ruled(row.n2, x, row.i2)
+        + ruled(row.n3, x, row.i3)
+        + ruled(row.n4, x, row.i4);
+    if row.count == 4 {
+        four
+    } else {
+        four + ruled(row.n5, x, row.i5)
+    }
+}
+
+fn ruled_tabled(k: usize, x: f64) -> f64
+    ensures { λ r. ⌜ r ≡ rawSum (rowAt k) x ⌝ }
+{
+    walk_by_rule(row_at(k), x)
+}
+
+// The temperature by the row at place k, at any p.
 pub fn tabled(k: usize, p: f64) -> f64
     ensures { λ r. ⌜ check r ≡ walkRule (rowAt k) p ⌝ }
 {
-    walk(row_at(k), p)
+    let x = argument(row_at(k).ln, p);
+    if usual(x) {
+        bare_tabled(k, x)
+    } else {
+        ruled_tabled(k, x)
+    }
 }
 
 // 3ef, by equation 3.

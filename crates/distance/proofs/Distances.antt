@@ -13,10 +13,11 @@ use Rattle.common.specs.Constant.{P-FROM, P-TO}
 use Rattle.common.specs.Sum.{every}
 use Rattle.rounding.specs.Fraction.{Near, scaledBy}
 use Rattle.rounding.proofs.Bound.{float, tight, expression-near}
-use Rattle.rounding.proofs.Whole.{held-value, finite-value}
+use Rattle.rounding.proofs.Whole.{held-value}
 use Rattle.boundary.specs.Boundary.{boundaryOf, boundaryRule}
 use Rattle.distance.specs.Exact.{form, Polynomial, cd, ef, gh, ij, jk, mn, qu, rx, uv, Q, temperature}
 use Rattle.distance.specs.Distance.{kind, top, distance, unit, Reaches}
+use Rattle.distance.proofs.Kept.{bare-of}
 use Rattle.distance.proofs.Expressions.{ex, written, form-check, form-same, taken, even, rows-ex, ef-ex}
 use Rattle.distance.proofs.Pressure.{p-whole, p-upto, p-finite, p-box}
 
@@ -53,7 +54,7 @@ reached b P (fin s m e) h = h
 pub boundary-reaches : (b : Polynomial) (p : Float) (P : ℕ) → HasValue p false P Q → P ≤ top b * Q → Reaches b P (boundaryOf (kind b) p)
 unfolding temperature
 boundary-reaches b p P h l =
-    subst (Reaches b P) (sym (written b p ∙ form-check (form b) p (finite-value p P Q h) (test b .is-taken)))
+    subst (Reaches b P) (sym (written b p ∙ form-check (form b) p (bare-of p P (top b) h l (leb→le (top b) 100 (test b .few))) (test b .is-taken)))
     (reached b P (float binary64 p (ex (form b)))
     (expression-near (distance b) unit (held-value binary64 p P Q (2 ^ 1026) (top b) refl l h) (ex (form b)) (form-same (form b) P (test b .is-even)) (test b .is-tight)))
 

@@ -12,7 +12,7 @@ use lib.Pow.{pow-add, pow-pos}
 use lib.Ieee.{Float, binary64, add, sub, mul, neg}
 use lib.Ieee.Fits.{and-l, and-r}
 use lib.Ieee.Positive.{positive}
-use Rattle.common.specs.Outcome.{Outcome, finite, check, then, zeroF}
+use Rattle.common.specs.Outcome.{Outcome, check, then, zeroF}
 use Rattle.common.specs.Decimal.{scaled, decimal, tens, tenths}
 use Rattle.common.specs.Sum.{rawTotal, every}
 use Rattle.common.proofs.Laws.{mul-right, add-left, step}
@@ -22,7 +22,7 @@ use Rattle.rounding.proofs.Bound.{Ex, con, var, sum, product, float, exact, Sam
 use Rattle.rounding.proofs.Powers.{power-ex, power-float, power-exact, sum-ex, sum-float, sum-same}
 use Rattle.boundary.specs.Boundary as f64
 use Rattle.boundary.specs.Boundary.{inP, boundaryOf, walkRule, rowAt, table, straight3ef}
-use Rattle.boundary.specs.Raw.{rawTerm}
+use Rattle.boundary.specs.Raw.{bareTerm, Bare}
 use Rattle.boundary.proofs.TableSums.{small, sum-check}
 use Rattle.distance.specs.Exact.{Row, Form, tabled, straight, form, valueOf, Polynomial, cd, ef, gh, ij, jk, mn, qu, rx, uv, Q, lifted, gain, loss, polynomial, line}
 use Rattle.distance.specs.Distance.{kind}
@@ -45,7 +45,7 @@ row-ex r = product (con (coefficient r) (printed r)) (power-ex var (r .power))
 abbrev pub rounded : Row → f64.Term
 rounded r = f64.term (pos (r .power)) (coefficient r)
 
-row-float : (x : Float) (r : Row) → float binary64 x (row-ex r) ≡ rawTerm x (rounded r)
+row-float : (x : Float) (r : Row) → float binary64 x (row-ex r) ≡ bareTerm x (rounded r)
 unfolding row-ex float
 row-float x r = ap (λ (z : Float). mul binary64 (coefficient r) z) (power-float x var (r .power) ∙ (unfold float in refl))
 
@@ -117,14 +117,14 @@ abbrev pub ex : Form → Ex
 ex (tabled rows) = rows-ex rows
 ex straight = ef-ex
 
--- ---- the same floats
-rows-check : (p : Float) → finite p ≡ true → (rows : List Row) → T (every small (map rounded rows)) → walkRule (f64.row inP (map rounded rows)) p ≡ check (float binary64 p (rows-ex rows))
+-- ---- the same floats, where no power of p is lost
+rows-check : (p : Float) → Bare p → (rows : List Row) → T (every small (map rounded rows)) → walkRule (f64.row inP (map rounded rows)) p ≡ check (float binary64 p (rows-ex rows))
 unfolding rows-ex walkRule
 rows-check p f rows t =
     sum-check p f (map rounded rows) t
-    ∙ ap check (sym (sum-float row-ex (rawTerm p) rounded p (row-float p) zero-ex rows ∙ start))
+    ∙ ap check (sym (sum-float row-ex (bareTerm p) rounded p (row-float p) zero-ex rows ∙ start))
   where
-    start : rawTotal (rawTerm p) (float binary64 p zero-ex) (map rounded rows) ≡ rawTotal (rawTerm p) zeroF (map rounded rows)
+    start : rawTotal (bareTerm p) (float binary64 p zero-ex) (map rounded rows) ≡ rawTotal (bareTerm p) zeroF (map rounded rows)
     start = unfold float in refl
 
 ef-check : (p : Float) → straight3ef p ≡ check (float binary64 p ef-ex)
@@ -158,7 +158,7 @@ abbrev pub taken : Form → Bool
 taken (tabled rows) = every small (map rounded rows)
 taken straight = true
 
-pub form-check : (g : Form) (p : Float) → finite p ≡ true → T (taken g) → inFloats g p ≡ check (float binary64 p (ex g))
+pub form-check : (g : Form) (p : Float) → Bare p → T (taken g) → inFloats g p ≡ check (float binary64 p (ex g))
 form-check (tabled rows) p f t = rows-check p f rows t
 form-check straight p f t = ef-check p
 

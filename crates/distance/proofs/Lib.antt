@@ -1,4 +1,5 @@
 pub mod Pressure
+pub mod Kept
 pub mod Expressions
 pub mod Distances
 pub mod Letters

@@ -103,9 +103,14 @@ pub ps-refused : psRule (whole 80) (decimal 3_3 1) ≡ refused 4
 unfolding psRule tvd-ph tvd-ps side-ph h3ab hs2p-reg3Rule worked workedBy table-t3a-ph table-t3b-ph table-v3a-ph table-v3b-ph table-t3a-ps table-t3b-ps table-v3a-ps table-v3b-ps table-p3a-hs table-p3b-hs sumRule total powerRule byBits lowest scaled decimal whole plus minus round neg add sub sum mul div ofInt le lt
 ps-refused = refl
 
-pub hs-refused : hsRule (whole 1500) (decimal 3_3 1) ≡ refused 4
+pub hs-refused : hsRule (whole 1500) (decimal 3_4 1) ≡ refused 4
 unfolding hsRule tvd-ph tvd-ps side-ph h3ab hs2p-reg3Rule worked workedBy table-t3a-ph table-t3b-ph table-v3a-ph table-v3b-ph table-t3a-ps table-t3b-ps table-v3a-ps table-v3b-ps table-p3a-hs table-p3b-hs sumRule total powerRule byBits lowest scaled decimal whole plus minus round neg add sub sum mul div ofInt le lt
 hs-refused = refl
+
+-- a power of a base next to 0 has lost its digits: 5 before the 4 that p would be
+pub hs-lost : hsRule (whole 1500) (decimal 3_3 1) ≡ refused 5
+unfolding hsRule tvd-ph tvd-ps side-ph h3ab hs2p-reg3Rule worked workedBy table-t3a-ph table-t3b-ph table-v3a-ph table-v3b-ph table-t3a-ps table-t3b-ps table-v3a-ps table-v3b-ps table-p3a-hs table-p3b-hs sumRule total powerRule byBits lowest scaled decimal whole plus minus round neg add sub sum mul div ofInt le lt
+hs-lost = refl
 
 -- ---- the critical point
 

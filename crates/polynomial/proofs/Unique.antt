@@ -1,6 +1,6 @@
 -- Each contract admits one answer. The theorems are about the contracts' own readings, `Reads.Post`, and not about a copy of them.
 -- Assumes nothing.
-use mathlib.Core.Path.{_≡_, refl, ap}
+use mathlib.Core.Path.{_≡_, refl, sym, ap, _∙_}
 use Rattle.common.specs.Outcome.{Outcome, value, refused}
 use Rattle.common.proofs.Same.{One, same, same-answer, kindOf, kind-number}
 use Rattle.polynomial.specs.Columns.{paperPair, paperFour}
@@ -10,6 +10,8 @@ use Rattle.polynomial.specs.declared.PairAnswer.{PairAnswer}
 use Rattle.polynomial.specs.declared.PairAnswer.the-variants as pairs
 use Rattle.polynomial.specs.declared.FourAnswer.{FourAnswer}
 use Rattle.polynomial.specs.declared.FourAnswer.the-variants as fours
+use Rattle.polynomial.proofs.raw.raw_sum.Kinds as raw-sum-kinds
+use Rattle.polynomial.proofs.raw.raw_sum.Reads as raw-sum
 use Rattle.polynomial.proofs.polynomial.poly_powi.Kinds as poly-powi-kinds
 use Rattle.polynomial.proofs.polynomial.poly_powi.Reads as poly-powi
 use Rattle.polynomial.proofs.polynomial.poly_i_powi.Kinds as poly-i-powi-kinds
@@ -89,3 +91,6 @@ polys-i-ii-powi-one κs a e x y p q = same-pair _ x y p q
 
 pub polys-i-ii-ij-jj-powi-one : One 3 polys-i-ii-ij-jj-powi-kinds.ps polys-i-ii-ij-jj-powi-kinds.r polys-i-ii-ij-jj-powi.Post
 polys-i-ii-ij-jj-powi-one κs a e x y p q = same-four _ x y p q
+
+pub raw-sum-one : One 3 raw-sum-kinds.ps raw-sum-kinds.r raw-sum.Post
+raw-sum-one κs a e x y p q = p ∙ sym q

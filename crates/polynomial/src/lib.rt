@@ -18,6 +18,7 @@ pub use polynomial::polys_i_ii_ij_jj_powi;
 pub use polynomial::polys_i_ii_powi;
 pub use polynomial::polys_i_ij_powi;
 pub use polynomial::polys_i_j_powi;
+pub use raw::raw_sum;
 
 pub enum PairAnswer {
     Value(Pair),

@@ -12,10 +12,10 @@ use lib.ListN.{length, getD, set, length-set}
 use lib.Seq.{getD-set-same, getD-set-other, ext-getD}
 use lib.Ieee.{Float, nan, binary64, mul, div}
 use borrow.Author.Tests.{eqb-true, eqb-false, lt-ltb, le-ltb, ltb-true, ltb-false}
-use Rattle.rules.specs.Power.{one, times, odd}
-use Rattle.rules.specs.RawPower.{rawHigherBits, rawByBits, rawPower}
+use Rattle.rules.specs.Power.{one, odd}
+use Rattle.rules.specs.RawPower.{times, rawHigherBits, rawByBits, rawPower}
 use Rattle.powers.specs.Reach.{squared}
-use Rattle.powers.specs.Powers.{exponentAt, HasPowers, Written}
+use Rattle.powers.specs.Powers.{exponentAt, Has, HasPowers, Written, WrittenBy}
 
 -- ---- the law
 
@@ -84,86 +84,95 @@ upper : (n k : ℕ) → k < 64 → 63 - k ≤ n → (n ≡ 63 - k → ⊥) → 6
 upper n k l m d = omega arith
 
 -- with the power i in its place
-filled-set : (a : Float) (w : List Float) (lo hi : ℕ) (i : ℕ) (x : Float) → HasPowers a w lo hi → i < 129 → x ≡ rawPower a (exponentAt i) → (lo' hi' : ℕ)
-    → ((k : ℕ) → lo' ≤ k → k < hi' → (k ≡ i → ⊥) → (lo ≤ k) × (k < hi)) → HasPowers a (set w i x) lo' hi'
-filled-set a w lo hi i x f l e lo' hi' within = record {
-  size = length-set w i x ∙ f .size;
+has-set : (f : ℤ → Float) (w : List Float) (lo hi : ℕ) (i : ℕ) (x : Float) → Has f w lo hi → i < 129 → x ≡ f (exponentAt i) → (lo' hi' : ℕ)
+    → ((k : ℕ) → lo' ≤ k → k < hi' → (k ≡ i → ⊥) → (lo ≤ k) × (k < hi)) → Has f (set w i x) lo' hi'
+has-set f w lo hi i x h l e lo' hi' within = record {
+  size = length-set w i x ∙ h .size;
   at = λ k m n. by k m n (eqb k i) refl;
 }
   where
-    by : (k : ℕ) → lo' ≤ k → k < hi' → (b : Bool) → eqb k i ≡ b → getD (set w i x) k nan ≡ rawPower a (exponentAt k)
-    by k m n true q = let s : k ≡ i = eqb-true k i q in let z : i < length w = rw (f .size) l in rw (s, getD-set-same w i x nan z) e
+    by : (k : ℕ) → lo' ≤ k → k < hi' → (b : Bool) → eqb k i ≡ b → getD (set w i x) k nan ≡ f (exponentAt k)
+    by k m n true q = let s : k ≡ i = eqb-true k i q in let z : i < length w = rw (h .size) l in rw (s, getD-set-same w i x nan z) e
     by k m n false q =
         let d : k ≡ i → ⊥ = eqb-false k i q in
         let t : (lo ≤ k) × (k < hi) = within k m n d in
-        rw (getD-set-other w i k x nan d) (f .at k (t .0) (t .1))
+        rw (getD-set-other w i k x nan d) (h .at k (t .0) (t .1))
 
-filled-none : (a : Float) (w : List Float) (i : ℕ) → length w ≡ 129 → HasPowers a w i i
-filled-none a w i e = record { size = e; at = λ k m n. absurd (omega arith) }
+has-none : (f : ℤ → Float) (w : List Float) (i : ℕ) → length w ≡ 129 → Has f w i i
+has-none f w i e = record { size = e; at = λ k m n. absurd (omega arith) }
 
 filled-one : (a : Float) (w : List Float) → length w ≡ 129 → HasPowers a (set w 64 one) 64 65
 unfolding rawPower rawHigherBits
-filled-one a w e = filled-set a w 64 64 64 one (filled-none a w 64 e) (omega arith) refl 64 65 (λ k m n d. absurd (d (omega arith)))
+filled-one a w e = has-set (rawPower a) w 64 64 64 one (has-none (rawPower a) w 64 e) (omega arith) refl 64 65 (λ k m n d. absurd (d (omega arith)))
 
 filled-up : (a : Float) (w : List Float) (h k : ℕ) → h ≤ 31 → k < 2 ^ h → 2 ^ h + k < 65 → HasPowers a w 64 (64 + 2 ^ h + k)
     → HasPowers a (set w (64 + 2 ^ h + k) (mul binary64 (getD w (64 + k) nan) (squared h a))) 64 (64 + 2 ^ h + (k + 1))
 filled-up a w h k l s m f =
-    filled-set a w 64 (64 + 2 ^ h + k) (64 + 2 ^ h + k) (mul binary64 (getD w (64 + k) nan) (squared h a)) f (omega arith)
+    has-set (rawPower a) w 64 (64 + 2 ^ h + k) (64 + 2 ^ h + k) (mul binary64 (getD w (64 + k) nan) (squared h a)) f (omega arith)
     (right-up a (getD w (64 + k) nan) h k l s (f .at (64 + k) (omega arith) (omega arith))) 64 (64 + 2 ^ h + (k + 1))
     (λ n p q d. (omega arith, lower n (64 + 2 ^ h + k) (omega arith) d))
 
 filled-down : (a : Float) (w : List Float) (hi k : ℕ) → k < 64 → 65 + k < hi → HasPowers a w (64 - k) hi
     → HasPowers a (set w (63 - k) (lostOr (getD w (65 + k) nan) (div binary64 one (getD w (65 + k) nan)))) (64 - (k + 1)) hi
 filled-down a w hi k l m f =
-    filled-set a w (64 - k) hi (63 - k) (lostOr (getD w (65 + k) nan) (div binary64 one (getD w (65 + k) nan))) f (omega arith)
+    has-set (rawPower a) w (64 - k) hi (63 - k) (lostOr (getD w (65 + k) nan) (div binary64 one (getD w (65 + k) nan))) f (omega arith)
     (right-down a (getD w (65 + k) nan) k l (f .at (65 + k) (omega arith) (omega arith))) (64 - (k + 1)) hi
     (λ n p q d. (upper n k l (omega arith) d, omega arith))
 
 -- ---- and nothing else is written
 
-written-set : (a : Float) (b w : List Float) (lo hi : ℕ) (i : ℕ) (x : Float) → Written a b w lo hi → (lo' hi' : ℕ) → HasPowers a (set w i x) lo' hi'
-    → lo' ≤ i → i < hi' → ((k : ℕ) → lo ≤ k → k < hi → (lo' ≤ k) × (k < hi')) → Written a b (set w i x) lo' hi'
-written-set a b w lo hi i x f lo' hi' g p q wider = record {
+written-set : (f : ℤ → Float) (b w : List Float) (lo hi : ℕ) (i : ℕ) (x : Float) → WrittenBy f b w lo hi → (lo' hi' : ℕ) → Has f (set w i x) lo' hi'
+    → lo' ≤ i → i < hi' → ((k : ℕ) → lo ≤ k → k < hi → (lo' ≤ k) × (k < hi')) → WrittenBy f b (set w i x) lo' hi'
+written-set f b w lo hi i x h lo' hi' g p q wider = record {
   held = g;
   rest = λ k out.
       getD-set-other w i k x nan (λ (e : k ≡ i). out (rw e p) (rw e q))
-      ∙ f .rest k (λ m n. out (wider k m n .0) (wider k m n .1));
+      ∙ h .rest k (λ m n. out (wider k m n .0) (wider k m n .1));
 }
+
+pub written-none : (f : ℤ → Float) (w : List Float) (i : ℕ) → length w ≡ 129 → WrittenBy f w w i i
+written-none f w i e = record { held = has-none f w i e; rest = λ k out. refl }
+
+-- one more, whatever f is
+pub written-next : (f : ℤ → Float) (b w : List Float) (lo k : ℕ) (x : Float) → lo ≤ k → k < 129 → x ≡ f (exponentAt k) → WrittenBy f b w lo k → WrittenBy f b (set w k x) lo (k + 1)
+written-next f b w lo k x l m e h =
+    written-set f b w lo k k x h lo (k + 1) (has-set f w lo k k x (h .held) m e lo (k + 1) (λ n p q d. (p, lower n k (omega arith) d))) l (omega arith)
+    (λ n p q. (p, omega arith))
 
 pub written-same : (a : Float) (b w : List Float) (lo hi hi' : ℕ) → hi ≡ hi' → Written a b w lo hi → Written a b w lo hi'
 written-same a b w lo hi hi' e f = rw e at f
 
 pub written-one : (a : Float) (w : List Float) → length w ≡ 129 → Written a w (set w 64 one) 64 65
 written-one a w e =
-    written-set a w w 64 64 64 one (record { held = filled-none a w 64 e; rest = λ k out. refl }) 64 65 (filled-one a w e) (omega arith) (omega arith)
+    written-set (rawPower a) w w 64 64 64 one (record { held = has-none (rawPower a) w 64 e; rest = λ k out. refl }) 64 65 (filled-one a w e) (omega arith) (omega arith)
     (λ k m n. absurd (omega arith))
 
 pub written-up : (a : Float) (b w : List Float) (h k : ℕ) → h ≤ 31 → k < 2 ^ h → 2 ^ h + k < 65 → Written a b w 64 (64 + 2 ^ h + k)
     → Written a b (set w (64 + 2 ^ h + k) (mul binary64 (getD w (64 + k) nan) (squared h a))) 64 (64 + 2 ^ h + (k + 1))
 written-up a b w h k l s m f =
-    written-set a b w 64 (64 + 2 ^ h + k) (64 + 2 ^ h + k) _ f 64 (64 + 2 ^ h + (k + 1)) (filled-up a w h k l s m (f .held)) (omega arith) (omega arith)
+    written-set (rawPower a) b w 64 (64 + 2 ^ h + k) (64 + 2 ^ h + k) _ f 64 (64 + 2 ^ h + (k + 1)) (filled-up a w h k l s m (f .held)) (omega arith) (omega arith)
     (λ n p q. (omega arith, omega arith))
 
 pub written-down : (a : Float) (b w : List Float) (hi k : ℕ) → k < 64 → 65 + k < hi → Written a b w (64 - k) hi
     → Written a b (set w (63 - k) (lostOr (getD w (65 + k) nan) (div binary64 one (getD w (65 + k) nan)))) (64 - (k + 1)) hi
 written-down a b w hi k l m f =
-    written-set a b w (64 - k) hi (63 - k) _ f (64 - (k + 1)) hi (filled-down a w hi k l m (f .held)) (omega arith) (omega arith)
+    written-set (rawPower a) b w (64 - k) hi (63 - k) _ f (64 - (k + 1)) hi (filled-down a w hi k l m (f .held)) (omega arith) (omega arith)
     (λ n p q. (omega arith, omega arith))
 
 -- what is written is determined
-pub written-once : (a : Float) (b v w : List Float) (lo hi : ℕ) → Written a b v lo hi → Written a b w lo hi → v ≡ w
-written-once a b v w lo hi f g = ext-getD nan v w (f .held .size ∙ sym (g .held .size)) (λ k l. by k (leb lo k) (ltb k hi) refl refl)
+pub written-once : (f : ℤ → Float) (b v w : List Float) (lo hi : ℕ) → WrittenBy f b v lo hi → WrittenBy f b w lo hi → v ≡ w
+written-once f b v w lo hi p g = ext-getD nan v w (p .held .size ∙ sym (g .held .size)) (λ k l. by k (leb lo k) (ltb k hi) refl refl)
   where
-    by : (k : ℕ) (p q : Bool) → leb lo k ≡ p → ltb k hi ≡ q → getD v k nan ≡ getD w k nan
-    by k true true p q =
-        let m : lo ≤ k = leb→le lo k (subst T (sym p) tt) in
-        let n : k < hi = ltb-true k hi q in
-        f .held .at k m n ∙ sym (g .held .at k m n)
-    by k true false p q =
-        let n : hi ≤ k = ltb-false k hi q in
-        f .rest k (λ x y. omega arith) ∙ sym (g .rest k (λ x y. omega arith))
-    by k false q p e =
-        f .rest k (λ x y. outside k p x) ∙ sym (g .rest k (λ x y. outside k p x))
+    by : (k : ℕ) (x y : Bool) → leb lo k ≡ x → ltb k hi ≡ y → getD v k nan ≡ getD w k nan
+    by k true true x y =
+        let m : lo ≤ k = leb→le lo k (subst T (sym x) tt) in
+        let n : k < hi = ltb-true k hi y in
+        p .held .at k m n ∙ sym (g .held .at k m n)
+    by k true false x y =
+        let n : hi ≤ k = ltb-false k hi y in
+        p .rest k (λ s t. omega arith) ∙ sym (g .rest k (λ s t. omega arith))
+    by k false y x e =
+        p .rest k (λ s t. outside k x s) ∙ sym (g .rest k (λ s t. outside k x s))
       where
         outside : (k : ℕ) → leb lo k ≡ false → lo ≤ k → ⊥
         outside k p x = subst T p (le→leb lo k x)

@@ -11,11 +11,13 @@ use lib.ListN.{length}
 use lib.Ieee.{Float}
 use borrow.Author.Tests.{le-ltb, le-leb, lt-leb, ltb-true, ltb-false, leb-true}
 use Rattle.common.specs.Outcome.{finite, check, inside}
-use Rattle.common.proofs.Laws.{inside-check}
+use Rattle.common.proofs.Laws.{inside-check, raw-inside}
 use Rattle.rules.specs.Power.{powerRule}
-use Rattle.rules.specs.RawPower.{rawPower}
-use Rattle.rules.proofs.Powers.{power-check}
-use Rattle.powers.specs.Powers.{Powers, capped, highest, lookedUp, placeOf}
+use Rattle.rules.specs.RawPower.{rawPower, keptPower}
+use Rattle.rules.proofs.Powers.{power-kept}
+use Rattle.rules.proofs.Usual.{power-usual}
+use Rattle.sizes.specs.Usual.{usualBase}
+use Rattle.powers.specs.Powers.{WrittenBy, BarePowers, Powers, ruled, capped, highest, lookedUp, placeOf}
 use Rattle.powers.specs.Reach.{spans}
 use Rattle.powers.proofs.Doubling.{at-up, at-down}
 
@@ -63,24 +65,36 @@ within-up k u d l m = omega arith
 within-top : (k h : ℕ) → k ≤ h → 64 + k < 72 + (h - 7)
 within-top k h l = omega arith
 
-looked : (a : Float) (b w : List Float) (u d : ℕ) → length b ≡ 129 → Powers a b w u d → (n : ℤ) → leb (natAbs n) 64 ≡ true → T (spans u d n) → lookedUp w n ≡ rawPower a n
-looked a b w u d e p (pos k) s t =
+-- the power n as f has it
+looked : (f : ℤ → Float) (b w : List Float) (u d : ℕ) → WrittenBy f b w (64 - capped d) (72 + (highest u d - 7)) → (n : ℤ) → leb (natAbs n) 64 ≡ true → T (spans u d n) → lookedUp w n ≡ f n
+looked f b w u d p (pos k) s t =
     let l : k ≤ 64 = leb-true k 64 s in
     let m : k ≤ u = leb→le k u t in
-    rw s (p .stand e .held .at (64 + k) (omega arith) (within-top k (highest u d) (within-up k u (capped d) m l)) ∙ ap (rawPower a) (at-up k))
-looked a b w u d e p (negsuc k) s t =
+    rw s (p .held .at (64 + k) (omega arith) (within-top k (highest u d) (within-up k u (capped d) m l)) ∙ ap f (at-up k))
+looked f b w u d p (negsuc k) s t =
     let l : suc k ≤ 64 = leb-true (suc k) 64 s in
     let m : k < d = ltb→lt k d t in
-    rw s (p .stand e .held .at (63 - k) (within-low k d m l) (within-high k (highest u d)) ∙ ap (rawPower a) (at-down k (omega arith)))
+    rw s (p .held .at (63 - k) (within-low k d m l) (within-high k (highest u d)) ∙ ap f (at-down k (omega arith)))
 
 -- w has the powers of a from -d to u, each as the written rule has it
 abbrev pub Holds : Float → List Float → ℕ → ℕ → Type 0
 Holds a w u d = (n : ℤ) → finite a ≡ true → T (spans u d n) → inside (powerRule a n) ≡ check (lookedUp w n)
 
-pub powers-hold : (a : Float) (b w : List Float) (u d : ℕ) → length b ≡ 129 → Powers a b w u d → Holds a w u d
+-- where f has them so
+holds : (a : Float) (f : ℤ → Float) (b w : List Float) (u d : ℕ) → WrittenBy f b w (64 - capped d) (72 + (highest u d - 7))
+    → ((n : ℤ) → finite a ≡ true → leb (natAbs n) 64 ≡ true → inside (powerRule a n) ≡ check (f n)) → Holds a w u d
 unfolding powerRule
-powers-hold a b w u d e p n f t = by (leb (natAbs n) 64) refl
+holds a f b w u d p e n g t = by (leb (natAbs n) 64) refl
   where
     by : (s : Bool) → leb (natAbs n) 64 ≡ s → inside (powerRule a n) ≡ check (lookedUp w n)
-    by true s = rw (power-check a n f s) (inside-check (rawPower a n) ∙ ap check (sym (looked a b w u d e p n s t)))
-    by false s = rw (f, s)
+    by true s = e n g s ∙ ap check (sym (looked f b w u d p n s t))
+    by false s = rw (g, s)
+
+pub powers-hold : (a : Float) (b w : List Float) (u d : ℕ) → length b ≡ 129 → Powers a b w u d → Holds a w u d
+powers-hold a b w u d l p =
+    holds a (ruled a) b w u d (p .stand l) (λ n f s. sym (raw-inside (powerRule a n) (keptPower a n) (power-kept a n f s)))
+
+-- at a usual base no power needs a look
+pub bare-hold : (a : Float) (b w : List Float) (u d : ℕ) → usualBase a ≡ true → length b ≡ 129 → BarePowers a b w u d → Holds a w u d
+bare-hold a b w u d h l p =
+    holds a (rawPower a) b w u d (p .stand l) (λ n f s. ap inside (power-usual a n h s) ∙ inside-check (rawPower a n))

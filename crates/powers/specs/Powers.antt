@@ -8,6 +8,8 @@ use lib.Dec.{ltb, leb}
 use lib.IntN.{ℤ, pos, negsuc, natAbs}
 use lib.ListN.{length, getD}
 use lib.Ieee.{Float, nan}
+use Rattle.common.specs.Outcome.{orNan}
+use Rattle.rules.specs.Power.{powerRule}
 use Rattle.rules.specs.RawPower.{rawPower}
 
 abbrev pub exponent : Bool → ℕ → ℤ
@@ -18,15 +20,25 @@ exponent false k = pos (k - 64)
 abbrev pub exponentAt : ℕ → ℤ
 exponentAt k = exponent (ltb k 64) k
 
--- from lo to below hi each power of a stands in its place
-pub record HasPowers (a : Float) (w : List Float) (lo hi : ℕ) : Type 0 where
+-- from lo to below hi each power stands in its place, as f has it
+pub record Has (f : ℤ → Float) (w : List Float) (lo hi : ℕ) : Type 0 where
   pub size : length w ≡ 129
-  pub at : (k : ℕ) → lo ≤ k → k < hi → getD w k nan ≡ rawPower a (exponentAt k)
+  pub at : (k : ℕ) → lo ≤ k → k < hi → getD w k nan ≡ f (exponentAt k)
 
 -- and everywhere else what was there before
-pub record Written (a : Float) (before w : List Float) (lo hi : ℕ) : Type 0 where
-  pub held : HasPowers a w lo hi
+pub record WrittenBy (f : ℤ → Float) (before w : List Float) (lo hi : ℕ) : Type 0 where
+  pub held : Has f w lo hi
   pub rest : (k : ℕ) → (lo ≤ k → k < hi → ⊥) → getD w k nan ≡ getD before k nan
+
+-- the powers of a with no look at them, and as the rule has them, a NaN for one that is refused
+abbrev pub HasPowers : Float → List Float → ℕ → ℕ → Type 0
+HasPowers a = Has (rawPower a)
+
+abbrev pub Written : Float → List Float → List Float → ℕ → ℕ → Type 0
+Written a = WrittenBy (rawPower a)
+
+abbrev pub ruled : Float → ℤ → Float
+ruled a n = orNan (powerRule a n)
 
 -- n, or 64 where that is less
 abbrev pub capped : ℕ → ℕ
@@ -36,9 +48,13 @@ capped n = 64 - (64 - n)
 abbrev pub highest : ℕ → ℕ → ℕ
 highest up down = capped down + (capped up - capped down)
 
--- the powers of a from -down to the highest, and to 7 in any case, are written to a table of 129
-pub record Powers (a : Float) (before w : List Float) (up down : ℕ) : Type 0 where
+-- the powers of a from -down to the highest, and to 7 in any case, are written to a table of 129: with no look at them
+pub record BarePowers (a : Float) (before w : List Float) (up down : ℕ) : Type 0 where
   pub stand : length before ≡ 129 → Written a before w (64 - capped down) (72 + (highest up down - 7))
+
+-- and as the rule has them
+pub record Powers (a : Float) (before w : List Float) (up down : ℕ) : Type 0 where
+  pub stand : length before ≡ 129 → WrittenBy (ruled a) before w (64 - capped down) (72 + (highest up down - 7))
 
 -- where the power n stands
 abbrev pub placeOf : ℤ → ℕ

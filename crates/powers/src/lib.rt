@@ -1,12 +1,15 @@
-// The powers of one base, worked once by doubling: the power n stands at 64 + n, for n from -64 to 64.
+// The powers of one base, each worked once: the power n stands at 64 + n, for n from -64 to 64. At a usual base they are worked by doubling, at any other
+// one by one by the rule.
 use common::least;
 use common::over;
+use rules::raw_power;
+use sizes::usual;
 ghost use mathlib.Core.Path.{_≡_};
 ghost use mathlib.Core.List.{List};
 ghost use Prim.Native.Nat.{ℕ, _+_, _-_, _<_, _≤_, _^_};
 ghost use lib.ListN.{length};
 ghost use lib.Ieee.{Float};
-ghost use Rattle.powers.specs.Powers.{Written, Powers, capped, lookedUp};
+ghost use Rattle.powers.specs.Powers.{Written, WrittenBy, BarePowers, Powers, ruled, capped, exponentAt, lookedUp};
 ghost use Rattle.powers.specs.Reach.{squared};
 
 // The first powers of a base make as many of the next, or fewer: w[k + half] = w[k] * sq, with sq the power at half.
@@ -69,15 +72,62 @@ fn cap(n: u32) -> u32
     if n < 64 { n } else { 64 }
 }
 
-// The powers from -down to up, no further than 64 either way.
-pub fn fill_powers(a: f64, up: u32, down: u32, w: &mut [f64; 129])
-    ensures { λ _. ⌜ Powers a (now (w .entry)) (now (w .exit)) up down ⌝ }
+// The highest power that is worked.
+fn top_of(high: u32, low: u32) -> u32
+    ensures { λ r. ⌜ r ≡ low + (high - low) ⌝ }
+{
+    if high < low { low } else { high }
+}
+
+// The powers from -down to up, no further than 64 either way, with no look at them: at a usual base they are the rule's.
+pub fn fill_bare(a: f64, up: u32, down: u32, w: &mut [f64; 129])
+    ensures { λ _. ⌜ BarePowers a (now (w .entry)) (now (w .exit)) up down ⌝ }
 {
     let high = cap(up);
     let low = cap(down);
-    let top: u32 = if high < low { low } else { high };
+    let top = top_of(high, low);
     fill_up(a, top as usize, w);
     fill_down(low, w);
+}
+
+// The exponent whose power stands at k.
+fn exponent_at(k: usize) -> i32
+    requires { ⌜ k < 129 ⌝ }
+    ensures { λ n. ⌜ n ≡ exponentAt k ⌝ }
+{
+    k as i32 - 64
+}
+
+// The powers of any base that stand from `lo` to below `hi`, one by one.
+fn fill_by_rule(a: f64, lo: usize, hi: usize, w: &mut [f64; 129])
+    requires { ⌜ (lo ≤ hi) × (hi ≤ 129) ⌝ }
+    ensures { λ _. ⌜ (length (now (w .entry)) ≡ 129 → WrittenBy (ruled a) (now (w .entry)) (now (w .exit)) lo hi) ⌝ }
+{
+    let mut k = lo;
+    while k < hi {
+        w[k] = raw_power(a, exponent_at(k));
+        k += 1;
+    }
+}
+
+// n - 7, or 0.
+fn past_seven(n: u32) -> u32
+    ensures { λ r. ⌜ r ≡ n - 7 ⌝ }
+{
+    if n < 7 { 0 } else { n - 7 }
+}
+
+// The powers from -down to up of any base, no further than 64 either way, as the rule has them: a NaN for one that is refused.
+pub fn fill_powers(a: f64, up: u32, down: u32, w: &mut [f64; 129])
+    ensures { λ _. ⌜ Powers a (now (w .entry)) (now (w .exit)) up down ⌝ }
+{
+    if usual(a) {
+        fill_bare(a, up, down, w);
+    } else {
+        let low = cap(down);
+        let more = past_seven(top_of(cap(up), low));
+        fill_by_rule(a, 64 - low as usize, 72 + more as usize, w);
+    }
 }
 
 // The power n of a table, or a NaN for an exponent that has no place there.

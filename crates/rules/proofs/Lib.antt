@@ -1,4 +1,7 @@
+pub mod Looks
+pub mod SignOf
 pub mod Powers
+pub mod Usual
 pub mod Squares
 pub mod Rounds
 pub mod Fields

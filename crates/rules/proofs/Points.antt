@@ -84,6 +84,26 @@ pub powers : map told (
 unfolding got powerRule toBits round neg mul div
 powers = refl
 
+-- Powers that have lost their digits: 2^-511 and 2^-512 squared, 1e-7 to the 64; the smallest normal f64, and the f64 before it, as they are; 1 divided by
+-- 2^1022, by the f64 after it, and by 2^-1023; then bases of 0, and no product at all of the smallest f64
+pub lost-digits : map told (
+    (power (fin false 1 (negsuc 510)) (pos 2))
+    ∷ (power (fin false 1 (negsuc 511)) (pos 2))
+    ∷ (power (decimal 1 7) (pos 64))
+    ∷ (power (fin false 1 (negsuc 1021)) (pos 1))
+    ∷ (power (fin false 0xfffffffffffff (negsuc 1073)) (pos 1))
+    ∷ (power (fin false 1 (pos 1022)) (negsuc 0))
+    ∷ (power (fin false 0x10000000000001 (pos 970)) (negsuc 0))
+    ∷ (power (fin false 1 (negsuc 1022)) (negsuc 0))
+    ∷ (power (whole 0) (pos 3))
+    ∷ (power (neg (whole 0)) (pos 3))
+    ∷ (power (whole 0) (negsuc 2))
+    ∷ (power (fin false 1 (negsuc 1073)) (pos 0))
+    ∷ []) ≡ (0, 0x10000000000000) ∷ (5, 0) ∷ (5, 0) ∷ (0, 0x10000000000000) ∷ (5, 0) ∷ (0, 0x10000000000000) ∷ (5, 0) ∷ (5, 0)
+    ∷ (0, 0) ∷ (0, 0x8000000000000000) ∷ (5, 0) ∷ (0, 0x3ff0000000000000) ∷ []
+unfolding got powerRule toBits round neg mul div
+lost-digits = refl
+
 -- from 1/27 on, and not from 1/25 or 1/29; m is from 0.75 up to 1.5
 pub logarithms : map told (
     (ln (decimal 1_49959856 8))

@@ -1,16 +1,14 @@
 -- The raw form of each rule tells all that a call inside another needs: checked once, it is the rule with any refusal turned into 5.
 -- Assumes nothing.
-use mathlib.Core.Path.{_≡_, refl, sym, _∙_, ap}
+use mathlib.Core.Path.{_≡_, refl}
 use mathlib.Core.Bool.{Bool, true, false}
 use Prim.Native.Nat.{ℕ, zero, suc, _+_, _*_, _^_}
-use lib.Dec.{T, leb, ltb}
-use lib.IntN.{ℤ, pos, natAbs}
+use lib.Dec.{T, ltb}
+use lib.IntN.{pos}
 use lib.Ieee.{Float, nan, inf, fin, binary64, fits, le, neg, div, round, ofInt, ofBits, minus}
 use borrow.Author.Tests.{ltb-true, ltb-false}
 use Rattle.common.specs.Outcome.{finite, check, inside, orNan}
-use Rattle.common.proofs.Laws.{check-kept, raw-inside, inside-check}
-use Rattle.rules.specs.Power.{powerRule}
-use Rattle.rules.specs.RawPower.{rawPower}
+use Rattle.common.proofs.Laws.{check-kept, raw-inside}
 use Rattle.rules.specs.Units.{inUnits}
 use Rattle.rules.specs.Root.{rootRule, nearestRoot, fromZero}
 use Rattle.rules.specs.Log.{logarithmRule, lnOf, L}
@@ -18,14 +16,9 @@ use Rattle.rules.specs.RawLog.{rawLn}
 use Rattle.rules.specs.Exp.{exponentialRule, expSteps, nearestWhole, twoTo}
 use Rattle.rules.specs.RawExp.{rawExp}
 use Rattle.rules.proofs.Fields.{PartsOf}
-use Rattle.rules.proofs.Powers.{power-check}
 use Rattle.rules.proofs.Meaning.{root-held, parts-of}
 use Rattle.rules.proofs.Logs.{ln-low, ln-high}
 use Rattle.rules.proofs.Exps.{quotient-small, small-is-finite, exp-check}
-
--- at a finite a and an n from -64 to 64
-pub raw-power : (a : Float) (n : ℤ) → finite a ≡ true → leb (natAbs n) 64 ≡ true → check (rawPower a n) ≡ inside (powerRule a n)
-raw-power a n fa small = sym (ap inside (power-check a n fa small) ∙ inside-check (rawPower a n))
 
 from-zero : (x : Float) → T (fromZero x) → finite x ≡ true
 from-zero nan h = absurd h

@@ -11,15 +11,19 @@ use lib.Ieee.{Float, binary64, size, mul}
 use lib.Ieee.Digits.{size-lt, size-reaches}
 use borrow.Author.Tests.{eq-eqb}
 use Rattle.common.specs.Outcome.{Outcome, value, finite, check, then}
-use Rattle.common.proofs.Laws.{Lost, next, check-kept, check-lost, mul-left, mul-right}
-use Rattle.rules.specs.Power.{one, odd, lowest, bits, times, byBits}
-use Rattle.rules.proofs.Powers.{overBits, times-lost, bits-lost, bits-check}
+use Rattle.common.proofs.Laws.{Lost, next, check-lost, mul-left, mul-right}
+use Rattle.rules.specs.Power.{one, odd, lowest, bits, checkPower, byBits}
+use Rattle.rules.specs.RawPower.{taken, overBits, kept}
+use Rattle.rules.proofs.Powers.{look-check, look-lost, bits-lost, bits-check}
 
 -- as `byBits`, where a lost x*x is refused too
-unfoldable pub byBitsAndSquares : Float → Float → List Bool → Outcome Float
-byBitsAndSquares r x [] = value r
-byBitsAndSquares r x (bit ∷ []) = check (times bit r x)
-byBitsAndSquares r x (bit ∷ next ∷ higher) = then (check (times bit r x)) (λ r'. then (check (mul binary64 x x)) (λ x2. byBitsAndSquares r' x2 (next ∷ higher)))
+unfoldable pub byBitsAndSquares : Float → Float → Float → List Bool → Outcome Float
+unfolding byBits
+byBitsAndSquares a r x [] = value r
+byBitsAndSquares a r x (bit ∷ []) = byBits a r x (bit ∷ [])
+byBitsAndSquares a r x (true ∷ next ∷ higher) =
+    then (checkPower a (mul binary64 r x)) (λ r'. then (check (mul binary64 x x)) (λ x2. byBitsAndSquares a r' x2 (next ∷ higher)))
+byBitsAndSquares a r x (false ∷ next ∷ higher) = then (check (mul binary64 x x)) (λ x2. byBitsAndSquares a r x2 (next ∷ higher))
 
 -- the highest of some bits is set
 unfoldable highest : Bool → List Bool → Bool
@@ -27,22 +31,27 @@ highest bit [] = bit
 highest bit (next ∷ higher) = highest next higher
 
 -- so r takes up a lost x
-taken : (r x : Float) (b : Bool) (bs : List Bool) → Lost x → T (highest b bs) → Lost (overBits r x (b ∷ bs))
+taken-up : (a r x : Float) (b : Bool) (bs : List Bool) → Lost x → T (highest b bs) → Lost (overBits (kept a) r x (b ∷ bs))
 unfolding overBits highest
-taken r x true [] l t = mul-right r x l
-taken r x false [] l t = absurd t
-taken r x b (c ∷ cs) l t = taken (times b r x) (mul binary64 x x) c cs (mul-left x x l) t
+taken-up a r x true [] l t = look-lost a (mul binary64 r x) (mul-right r x l)
+taken-up a r x false [] l t = absurd t
+taken-up a r x b (c ∷ cs) l t = taken-up a (taken (kept a) b r x) (mul binary64 x x) c cs (mul-left x x l) t
 
-both-tests : (r x : Float) (b : Bool) (bs : List Bool) → T (highest b bs) → byBitsAndSquares r x (b ∷ bs) ≡ check (overBits r x (b ∷ bs))
+both-tests : (a r x : Float) (b : Bool) (bs : List Bool) → finite r ≡ true → T (highest b bs) → byBitsAndSquares a r x (b ∷ bs) ≡ check (overBits (kept a) r x (b ∷ bs))
 unfolding byBitsAndSquares overBits highest
-both-tests r x b [] t = refl
-both-tests r x b (c ∷ cs) t =
+both-tests a r x b [] f t = bits-check a r x (b ∷ []) f
+both-tests a r x true (c ∷ cs) f t =
     let x2 = mul binary64 x x in
-    let s = times b r x in
-    let o = check (overBits s x2 (c ∷ cs)) in
-    next s _ o
-    (λ _. next x2 _ o (λ _. both-tests s x2 c cs t) (λ l. check-lost (overBits s x2 (c ∷ cs)) (taken s x2 c cs l t)))
-    (λ l. check-lost (overBits s x2 (c ∷ cs)) (bits-lost s x2 (c ∷ cs) l))
+    let s = kept a (mul binary64 r x) in
+    let o = check (overBits (kept a) s x2 (c ∷ cs)) in
+    rw (look-check a (mul binary64 r x))
+    (next s _ o
+    (λ g. next x2 _ o (λ _. both-tests a s x2 c cs g t) (λ l. check-lost (overBits (kept a) s x2 (c ∷ cs)) (taken-up a s x2 c cs l t)))
+    (λ l. check-lost (overBits (kept a) s x2 (c ∷ cs)) (bits-lost a s x2 (c ∷ cs) l)))
+both-tests a r x false (c ∷ cs) f t =
+    let x2 = mul binary64 x x in
+    let o = check (overBits (kept a) r x2 (c ∷ cs)) in
+    next x2 _ o (λ _. both-tests a r x2 c cs f t) (λ l. check-lost (overBits (kept a) r x2 (c ∷ cs)) (taken-up a r x2 c cs l t))
 
 top : (k n : ℕ) → 2 ^ k ≤ n → n < 2 ^ suc k → T (highest (odd n) (lowest k (n / 2)))
 unfolding highest lowest
@@ -52,9 +61,9 @@ top (suc k) n l h =
     let q : 2 ^ suc (suc k) ≡ 2 ^ suc k * 2 = pow-suc 2 (suc k) in
     top k (n / 2) (omega arith) (omega arith)
 
-pub squares : (a x : Float) (n : ℕ) → byBitsAndSquares one x (bits n) ≡ byBits a one x (bits n)
+pub squares : (a x : Float) (n : ℕ) → byBitsAndSquares a one x (bits n) ≡ byBits a one x (bits n)
 squares a x n = go (size n) (size-lt n) (size-reaches n)
   where
-    go : (k : ℕ) → n < 2 ^ k → ((j : ℕ) → j < k → 2 ^ j ≤ n) → byBitsAndSquares one x (lowest k n) ≡ byBits a one x (lowest k n)
+    go : (k : ℕ) → n < 2 ^ k → ((j : ℕ) → j < k → 2 ^ j ≤ n) → byBitsAndSquares a one x (lowest k n) ≡ byBits a one x (lowest k n)
     go zero l h = unfold byBitsAndSquares byBits lowest in refl
-    go (suc k) l h = unfold lowest in both-tests one x (odd n) (lowest k (n / 2)) (top k n (h k (omega arith)) l) ∙ sym (bits-check a one x (odd n ∷ lowest k (n / 2)) refl)
+    go (suc k) l h = unfold lowest in both-tests a one x (odd n) (lowest k (n / 2)) refl (top k n (h k (omega arith)) l) ∙ sym (bits-check a one x (odd n ∷ lowest k (n / 2)) refl)

@@ -3,6 +3,8 @@ use mathlib.Core.Path.{sym, _∙_}
 use Rattle.common.proofs.Same.{One, same-answer}
 use Rattle.rules.proofs.powi.magnitude.Kinds as magnitude-kinds
 use Rattle.rules.proofs.powi.magnitude.Reads as magnitude
+use Rattle.rules.proofs.powi.bare_power.Kinds as bare-power-kinds
+use Rattle.rules.proofs.powi.bare_power.Reads as bare-power
 use Rattle.rules.proofs.powi.raw_power.Kinds as raw-power-kinds
 use Rattle.rules.proofs.powi.raw_power.Reads as raw-power
 use Rattle.rules.proofs.powi.power.Kinds as power-kinds
@@ -34,6 +36,9 @@ exponential-one κs a e x y p q = same-answer _ x y p q
 
 pub magnitude-one : One 0 magnitude-kinds.ps magnitude-kinds.r magnitude.Post
 magnitude-one κs a e x y p q = p ∙ sym q
+
+pub bare-power-one : One 0 bare-power-kinds.ps bare-power-kinds.r bare-power.Post
+bare-power-one κs a e x y p q = p ∙ sym q
 
 pub raw-power-one : One 0 raw-power-kinds.ps raw-power-kinds.r raw-power.Post
 raw-power-one κs a e x y p q = p ∙ sym q

@@ -1,11 +1,11 @@
 -- To believe: the power rule (docs/SCOPE.md, the four written rules). In order: the bits of |n|, when a power is lost, the bits taken one by one, the sign
 -- of n, and the rule. Assumes nothing: these are definitions.
-use Prim.Native.Nat.{ℕ, zero, suc, _/_, _%_}
-use mathlib.Core.Bool.{Bool, true, false, cond}
+use Prim.Native.Nat.{ℕ, zero, suc, _*_, _/_, _%_, _^_}
+use mathlib.Core.Bool.{Bool, true, false, not, _&&_, cond}
 use mathlib.Core.List.{List, [], _∷_}
-use lib.Dec.{eqb, leb}
+use lib.Dec.{eqb, leb, ltb}
 use lib.IntN.{ℤ, pos, negsuc, natAbs}
-use lib.Ieee.{Float, fin, binary64, size, mul, div}
+use lib.Ieee.{Float, nan, inf, fin, binary64, up, down, size, mul, div}
 use Rattle.common.specs.Outcome.{Outcome, value, refused, finite, check, then}
 
 abbrev pub one : Float
@@ -23,19 +23,28 @@ lowest (suc k) n = odd n ∷ lowest k (n / 2)
 abbrev pub bits : ℕ → List Bool
 bits n = lowest (size n) n
 
--- Every r on the way to a power of a, and its result, is looked at once: a lost one is refused with 5. When a power is lost is said here alone.
-abbrev pub checkPower : Float → Float → Outcome Float
-checkPower a r = check r
+-- the size of r is below 2^-1022, the smallest normal f64: digits are lost, or all of it is
+abbrev pub subnormal : Float → Bool
+subnormal nan = false
+subnormal (inf s) = false
+subnormal (fin s m e) = ltb (m * up e * 2 ^ 1022) (down e)
 
--- r*x where the bit is set
-abbrev pub times : Bool → Float → Float → Float
-times true r x = mul binary64 r x
-times false r x = r
+-- 0 or -0
+abbrev pub isZero : Float → Bool
+isZero nan = false
+isZero (inf s) = false
+isZero (fin s m e) = eqb m 0
+
+-- Every r on the way to a power of a, and its result, is looked at once: a lost one is refused with 5. When a power is lost is said here alone: where it
+-- is not finite, and where a is not 0 and it is subnormal or 0.
+abbrev pub checkPower : Float → Float → Outcome Float
+checkPower a r = cond (subnormal r && not (isZero a)) (refused 5) (check r)
 
 -- The bits in turn: where the bit is set r becomes r*x, and for the bits above it x becomes x*x. At the start r is 1 and x is a.
 unfoldable pub byBits : Float → Float → Float → List Bool → Outcome Float
 byBits a r x [] = value r
-byBits a r x (bit ∷ higher) = then (checkPower a (times bit r x)) (λ r'. byBits a r' (mul binary64 x x) higher)
+byBits a r x (true ∷ higher) = then (checkPower a (mul binary64 r x)) (λ r'. byBits a r' (mul binary64 x x) higher)
+byBits a r x (false ∷ higher) = byBits a r (mul binary64 x x) higher
 
 -- r, or 1/r for a negative n
 abbrev pub bySign : Float → ℤ → Float → Outcome Float

@@ -1,12 +1,27 @@
--- Helps proofs only: the power with no check, where a lost r is the result. proofs/Powers has that the rule is its check. In order: the bits of |n|, and
--- the sign of n. Assumes nothing: these are definitions.
+-- Helps proofs only: the power by numbers alone, where a lost r is the result and stays lost. In order: the bits of |n| with each r as a function leaves it,
+-- the same by the number |n| itself and with each r as it is, and the sign of n; then the power with no look at it, which is the rule's at usual bases
+-- (proofs/Usual), and the one with a NaN for each r that is lost, which is the rule's at any (proofs/Powers). Assumes nothing: these are definitions.
 use Prim.Native.Nat.{ℕ, zero, suc, _/_}
-use mathlib.Core.Bool.{Bool, true, false}
+use mathlib.Core.Bool.{Bool, true, false, not, _&&_, cond}
+use mathlib.Core.List.{List, [], _∷_}
 use lib.Dec.{eqb}
 use lib.IntN.{ℤ, pos, negsuc, natAbs}
-use lib.Ieee.{Float, binary64, mul, div}
+use lib.Ieee.{Float, nan, binary64, mul, div}
 use Rattle.common.specs.Formula.{lostOr}
-use Rattle.rules.specs.Power.{one, odd, times}
+use Rattle.rules.specs.Power.{one, odd, bits, subnormal, isZero}
+
+-- r*x as f leaves it, where the bit is set
+abbrev pub taken : (Float → Float) → Bool → Float → Float → Float
+taken f true r x = f (mul binary64 r x)
+taken f false r x = r
+
+unfoldable pub overBits : (Float → Float) → Float → Float → List Bool → Float
+overBits f r x [] = r
+overBits f r x (bit ∷ higher) = overBits f (taken f bit r x) (mul binary64 x x) higher
+
+-- r*x where the bit is set
+abbrev pub times : Bool → Float → Float → Float
+times = taken (λ r. r)
 
 -- From r and a on, with h the higher bits that remain and `none` saying that there are none: while some remain, a becomes a*a, and where the lowest is set
 -- r becomes r*a. The first argument bounds how many remain.
@@ -19,10 +34,22 @@ rawHigherBits (suc k) false r a h = rawHigherBits k (eqb (h / 2) 0) (times (odd 
 abbrev pub rawByBits : ℕ → Float → Float → ℕ → Float
 rawByBits k r a n = rawHigherBits k (eqb (n / 2) 0) (times (odd n) r a) a (n / 2)
 
+-- r, or 1/r as f leaves it for a negative n
+abbrev pub bySignOf : (Float → Float) → ℤ → Float → Float
+bySignOf f (pos k) r = r
+bySignOf f (negsuc k) r = lostOr r (f (div binary64 one r))
+
 abbrev pub rawBySign : ℤ → Float → Float
-rawBySign (pos k) r = r
-rawBySign (negsuc k) r = lostOr r (div binary64 one r)
+rawBySign = bySignOf (λ r. r)
 
 -- |n| has 32 bits at most, where n is an i32
 unfoldable pub rawPower : Float → ℤ → Float
 rawPower a n = rawBySign n (rawByBits 31 one a (natAbs n))
+
+-- an r on the way to a power of a, or a NaN where its digits are lost
+abbrev pub kept : Float → Float → Float
+kept a r = cond (subnormal r && not (isZero a)) nan r
+
+unfoldable pub keptPower : Float → ℤ → Float
+unfolding overBits
+keptPower a n = bySignOf (kept a) n (overBits (kept a) one a (bits (natAbs n)))

@@ -11,6 +11,7 @@ pub use exp::exponential;
 pub use exp::raw_exponential;
 pub use ln::logarithm;
 pub use ln::raw_logarithm;
+pub use powi::bare_power;
 pub use powi::magnitude;
 pub use powi::power;
 pub use powi::raw_power;

@@ -1,7 +1,10 @@
 // Tables of S05rev by column, and the sum of each.
-use algo::gated;
+use algo::Order;
+use algo::both_usual;
+use algo::checked_once;
 use algo::plain_sum;
-use powers::fill_powers;
+use polynomial::raw_sum;
+use powers::fill_bare;
 ghost use mathlib.Core.Path.{_≡_};
 ghost use Rattle.common.specs.Outcome.{orNan};
 ghost use Rattle.algo.specs.Table.{sumRule, term};
@@ -110,14 +113,20 @@ const N3A: [f64; 30] = [
 pub fn sum_a(x: f64, y: f64) -> f64
     ensures { λ r. ⌜ r ≡ orNan (sumRule term x y table3a) ⌝ }
 {
-    let mut wi = [0.0; 129];
-    let mut wj = [0.0; 129];
+    if both_usual(x, y) {
+        let mut wi = [0.0; 129];
+        let mut wj = [0.0; 129];
+        let is = I3A;
+        let js = J3A;
+        let ns = N3A;
+        fill_bare(x, 2, 12, &mut wi);
+        fill_bare(y, 12, 0, &mut wj);
+        return checked_once(plain_sum(&wi, &wj, &is, &js, &ns));
+    }
     let is = I3A;
     let js = J3A;
     let ns = N3A;
-    fill_powers(x, 2, 12, &mut wi);
-    fill_powers(y, 12, 0, &mut wj);
-    gated(x, y, plain_sum(&wi, &wj, &is, &js, &ns))
+    raw_sum(Order::Zero, Order::Zero, x, y, &is, &js, &ns)
 }
 
 // v3b(p,T)
@@ -229,14 +238,20 @@ const N3B: [f64; 32] = [
 pub fn sum_b(x: f64, y: f64) -> f64
     ensures { λ r. ⌜ r ≡ orNan (sumRule term x y table3b) ⌝ }
 {
-    let mut wi = [0.0; 129];
-    let mut wj = [0.0; 129];
+    if both_usual(x, y) {
+        let mut wi = [0.0; 129];
+        let mut wj = [0.0; 129];
+        let is = I3B;
+        let js = J3B;
+        let ns = N3B;
+        fill_bare(x, 4, 12, &mut wi);
+        fill_bare(y, 14, 0, &mut wj);
+        return checked_once(plain_sum(&wi, &wj, &is, &js, &ns));
+    }
     let is = I3B;
     let js = J3B;
     let ns = N3B;
-    fill_powers(x, 4, 12, &mut wi);
-    fill_powers(y, 14, 0, &mut wj);
-    gated(x, y, plain_sum(&wi, &wj, &is, &js, &ns))
+    raw_sum(Order::Zero, Order::Zero, x, y, &is, &js, &ns)
 }
 
 // v3c(p,T)
@@ -357,14 +372,20 @@ const N3C: [f64; 35] = [
 pub fn sum_c(x: f64, y: f64) -> f64
     ensures { λ r. ⌜ r ≡ orNan (sumRule term x y table3c) ⌝ }
 {
-    let mut wi = [0.0; 129];
-    let mut wj = [0.0; 129];
+    if both_usual(x, y) {
+        let mut wi = [0.0; 129];
+        let mut wj = [0.0; 129];
+        let is = I3C;
+        let js = J3C;
+        let ns = N3C;
+        fill_bare(x, 8, 12, &mut wi);
+        fill_bare(y, 10, 0, &mut wj);
+        return checked_once(plain_sum(&wi, &wj, &is, &js, &ns));
+    }
     let is = I3C;
     let js = J3C;
     let ns = N3C;
-    fill_powers(x, 8, 12, &mut wi);
-    fill_powers(y, 10, 0, &mut wj);
-    gated(x, y, plain_sum(&wi, &wj, &is, &js, &ns))
+    raw_sum(Order::Zero, Order::Zero, x, y, &is, &js, &ns)
 }
 
 // v3d(p,T)
@@ -494,14 +515,20 @@ const N3D: [f64; 38] = [
 pub fn sum_d(x: f64, y: f64) -> f64
     ensures { λ r. ⌜ r ≡ orNan (sumRule term x y table3d) ⌝ }
 {
-    let mut wi = [0.0; 129];
-    let mut wj = [0.0; 129];
+    if both_usual(x, y) {
+        let mut wi = [0.0; 129];
+        let mut wj = [0.0; 129];
+        let is = I3D;
+        let js = J3D;
+        let ns = N3D;
+        fill_bare(x, 3, 12, &mut wi);
+        fill_bare(y, 16, 0, &mut wj);
+        return checked_once(plain_sum(&wi, &wj, &is, &js, &ns));
+    }
     let is = I3D;
     let js = J3D;
     let ns = N3D;
-    fill_powers(x, 3, 12, &mut wi);
-    fill_powers(y, 16, 0, &mut wj);
-    gated(x, y, plain_sum(&wi, &wj, &is, &js, &ns))
+    raw_sum(Order::Zero, Order::Zero, x, y, &is, &js, &ns)
 }
 
 // v3e(p,T)
@@ -604,14 +631,20 @@ const N3E: [f64; 29] = [
 pub fn sum_e(x: f64, y: f64) -> f64
     ensures { λ r. ⌜ r ≡ orNan (sumRule term x y table3e) ⌝ }
 {
-    let mut wi = [0.0; 129];
-    let mut wj = [0.0; 129];
+    if both_usual(x, y) {
+        let mut wi = [0.0; 129];
+        let mut wj = [0.0; 129];
+        let is = I3E;
+        let js = J3E;
+        let ns = N3E;
+        fill_bare(x, 2, 12, &mut wi);
+        fill_bare(y, 16, 0, &mut wj);
+        return checked_once(plain_sum(&wi, &wj, &is, &js, &ns));
+    }
     let is = I3E;
     let js = J3E;
     let ns = N3E;
-    fill_powers(x, 2, 12, &mut wi);
-    fill_powers(y, 16, 0, &mut wj);
-    gated(x, y, plain_sum(&wi, &wj, &is, &js, &ns))
+    raw_sum(Order::Zero, Order::Zero, x, y, &is, &js, &ns)
 }
 
 // v3f(p,T)
@@ -753,14 +786,20 @@ const N3F: [f64; 42] = [
 pub fn sum_f(x: f64, y: f64) -> f64
     ensures { λ r. ⌜ r ≡ orNan (sumRule term x y table3f) ⌝ }
 {
-    let mut wi = [0.0; 129];
-    let mut wj = [0.0; 129];
+    if both_usual(x, y) {
+        let mut wi = [0.0; 129];
+        let mut wj = [0.0; 129];
+        let is = I3F;
+        let js = J3F;
+        let ns = N3F;
+        fill_bare(x, 32, 0, &mut wi);
+        fill_bare(y, 3, 12, &mut wj);
+        return checked_once(plain_sum(&wi, &wj, &is, &js, &ns));
+    }
     let is = I3F;
     let js = J3F;
     let ns = N3F;
-    fill_powers(x, 32, 0, &mut wi);
-    fill_powers(y, 3, 12, &mut wj);
-    gated(x, y, plain_sum(&wi, &wj, &is, &js, &ns))
+    raw_sum(Order::Zero, Order::Zero, x, y, &is, &js, &ns)
 }
 
 // v3g(p,T)
@@ -890,12 +929,18 @@ const N3G: [f64; 38] = [
 pub fn sum_g(x: f64, y: f64) -> f64
     ensures { λ r. ⌜ r ≡ orNan (sumRule term x y table3g) ⌝ }
 {
-    let mut wi = [0.0; 129];
-    let mut wj = [0.0; 129];
+    if both_usual(x, y) {
+        let mut wi = [0.0; 129];
+        let mut wj = [0.0; 129];
+        let is = I3G;
+        let js = J3G;
+        let ns = N3G;
+        fill_bare(x, 10, 12, &mut wi);
+        fill_bare(y, 24, 0, &mut wj);
+        return checked_once(plain_sum(&wi, &wj, &is, &js, &ns));
+    }
     let is = I3G;
     let js = J3G;
     let ns = N3G;
-    fill_powers(x, 10, 12, &mut wi);
-    fill_powers(y, 24, 0, &mut wj);
-    gated(x, y, plain_sum(&wi, &wj, &is, &js, &ns))
+    raw_sum(Order::Zero, Order::Zero, x, y, &is, &js, &ns)
 }

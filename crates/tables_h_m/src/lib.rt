@@ -1,7 +1,10 @@
 // Tables of S05rev by column, and the sum of each.
-use algo::gated;
+use algo::Order;
+use algo::both_usual;
+use algo::checked_once;
 use algo::plain_sum;
-use powers::fill_powers;
+use polynomial::raw_sum;
+use powers::fill_bare;
 ghost use mathlib.Core.Path.{_≡_};
 ghost use Rattle.common.specs.Outcome.{orNan};
 ghost use Rattle.algo.specs.Table.{sumRule, term};
@@ -108,14 +111,20 @@ const N3H: [f64; 29] = [
 pub fn sum_h(x: f64, y: f64) -> f64
     ensures { λ r. ⌜ r ≡ orNan (sumRule term x y table3h) ⌝ }
 {
-    let mut wi = [0.0; 129];
-    let mut wj = [0.0; 129];
+    if both_usual(x, y) {
+        let mut wi = [0.0; 129];
+        let mut wj = [0.0; 129];
+        let is = I3H;
+        let js = J3H;
+        let ns = N3H;
+        fill_bare(x, 1, 12, &mut wi);
+        fill_bare(y, 16, 0, &mut wj);
+        return checked_once(plain_sum(&wi, &wj, &is, &js, &ns));
+    }
     let is = I3H;
     let js = J3H;
     let ns = N3H;
-    fill_powers(x, 1, 12, &mut wi);
-    fill_powers(y, 16, 0, &mut wj);
-    gated(x, y, plain_sum(&wi, &wj, &is, &js, &ns))
+    raw_sum(Order::Zero, Order::Zero, x, y, &is, &js, &ns)
 }
 
 // v3i(p,T)
@@ -257,14 +266,20 @@ const N3I: [f64; 42] = [
 pub fn sum_i(x: f64, y: f64) -> f64
     ensures { λ r. ⌜ r ≡ orNan (sumRule term x y table3i) ⌝ }
 {
-    let mut wi = [0.0; 129];
-    let mut wj = [0.0; 129];
+    if both_usual(x, y) {
+        let mut wi = [0.0; 129];
+        let mut wj = [0.0; 129];
+        let is = I3I;
+        let js = J3I;
+        let ns = N3I;
+        fill_bare(x, 36, 0, &mut wi);
+        fill_bare(y, 12, 12, &mut wj);
+        return checked_once(plain_sum(&wi, &wj, &is, &js, &ns));
+    }
     let is = I3I;
     let js = J3I;
     let ns = N3I;
-    fill_powers(x, 36, 0, &mut wi);
-    fill_powers(y, 12, 12, &mut wj);
-    gated(x, y, plain_sum(&wi, &wj, &is, &js, &ns))
+    raw_sum(Order::Zero, Order::Zero, x, y, &is, &js, &ns)
 }
 
 // v3j(p,T)
@@ -367,14 +382,20 @@ const N3J: [f64; 29] = [
 pub fn sum_j(x: f64, y: f64) -> f64
     ensures { λ r. ⌜ r ≡ orNan (sumRule term x y table3j) ⌝ }
 {
-    let mut wi = [0.0; 129];
-    let mut wj = [0.0; 129];
+    if both_usual(x, y) {
+        let mut wi = [0.0; 129];
+        let mut wj = [0.0; 129];
+        let is = I3J;
+        let js = J3J;
+        let ns = N3J;
+        fill_bare(x, 28, 0, &mut wi);
+        fill_bare(y, 3, 12, &mut wj);
+        return checked_once(plain_sum(&wi, &wj, &is, &js, &ns));
+    }
     let is = I3J;
     let js = J3J;
     let ns = N3J;
-    fill_powers(x, 28, 0, &mut wi);
-    fill_powers(y, 3, 12, &mut wj);
-    gated(x, y, plain_sum(&wi, &wj, &is, &js, &ns))
+    raw_sum(Order::Zero, Order::Zero, x, y, &is, &js, &ns)
 }
 
 // v3k(p,T)
@@ -492,14 +513,20 @@ const N3K: [f64; 34] = [
 pub fn sum_k(x: f64, y: f64) -> f64
     ensures { λ r. ⌜ r ≡ orNan (sumRule term x y table3k) ⌝ }
 {
-    let mut wi = [0.0; 129];
-    let mut wj = [0.0; 129];
+    if both_usual(x, y) {
+        let mut wi = [0.0; 129];
+        let mut wj = [0.0; 129];
+        let is = I3K;
+        let js = J3K;
+        let ns = N3K;
+        fill_bare(x, 12, 2, &mut wi);
+        fill_bare(y, 14, 12, &mut wj);
+        return checked_once(plain_sum(&wi, &wj, &is, &js, &ns));
+    }
     let is = I3K;
     let js = J3K;
     let ns = N3K;
-    fill_powers(x, 12, 2, &mut wi);
-    fill_powers(y, 14, 12, &mut wj);
-    gated(x, y, plain_sum(&wi, &wj, &is, &js, &ns))
+    raw_sum(Order::Zero, Order::Zero, x, y, &is, &js, &ns)
 }
 
 // v3l(p,T)
@@ -647,23 +674,33 @@ const SUMMED_3L: usize = 42;
 pub fn sum_l(x: f64, y: f64) -> f64
     ensures { λ r. ⌜ r ≡ orNan (sumRule term x y (take 42 table3l)) ⌝ }
 {
-    let mut wi = [0.0; 129];
-    let mut wj = [0.0; 129];
-    let is = I3L;
-    let js = J3L;
-    let ns = N3L;
-    fill_powers(x, 14, 12, &mut wi);
-    fill_powers(y, 36, 0, &mut wj);
-    gated(
-        x,
-        y,
-        plain_sum(
+    if both_usual(x, y) {
+        let mut wi = [0.0; 129];
+        let mut wj = [0.0; 129];
+        let is = I3L;
+        let js = J3L;
+        let ns = N3L;
+        fill_bare(x, 14, 12, &mut wi);
+        fill_bare(y, 36, 0, &mut wj);
+        return checked_once(plain_sum(
             &wi,
             &wj,
             &is[0..SUMMED_3L],
             &js[0..SUMMED_3L],
             &ns[0..SUMMED_3L],
-        ),
+        ));
+    }
+    let is = I3L;
+    let js = J3L;
+    let ns = N3L;
+    raw_sum(
+        Order::Zero,
+        Order::Zero,
+        x,
+        y,
+        &is[0..SUMMED_3L],
+        &js[0..SUMMED_3L],
+        &ns[0..SUMMED_3L],
     )
 }
 
@@ -800,12 +837,18 @@ const N3M: [f64; 40] = [
 pub fn sum_m(x: f64, y: f64) -> f64
     ensures { λ r. ⌜ r ≡ orNan (sumRule term x y table3m) ⌝ }
 {
-    let mut wi = [0.0; 129];
-    let mut wj = [0.0; 129];
+    if both_usual(x, y) {
+        let mut wi = [0.0; 129];
+        let mut wj = [0.0; 129];
+        let is = I3M;
+        let js = J3M;
+        let ns = N3M;
+        fill_bare(x, 28, 0, &mut wi);
+        fill_bare(y, 36, 0, &mut wj);
+        return checked_once(plain_sum(&wi, &wj, &is, &js, &ns));
+    }
     let is = I3M;
     let js = J3M;
     let ns = N3M;
-    fill_powers(x, 28, 0, &mut wi);
-    fill_powers(y, 36, 0, &mut wj);
-    gated(x, y, plain_sum(&wi, &wj, &is, &js, &ns))
+    raw_sum(Order::Zero, Order::Zero, x, y, &is, &js, &ns)
 }

@@ -1,7 +1,10 @@
 // Tables of S05rev by column, and the sum of each.
-use algo::gated;
+use algo::Order;
+use algo::both_usual;
+use algo::checked_once;
 use algo::plain_sum;
-use powers::fill_powers;
+use polynomial::raw_sum;
+use powers::fill_bare;
 ghost use mathlib.Core.Path.{_≡_};
 ghost use Rattle.common.specs.Outcome.{orNan};
 ghost use Rattle.algo.specs.Table.{sumRule, term};
@@ -137,14 +140,20 @@ const N3N: [f64; 39] = [
 pub fn sum_n(x: f64, y: f64) -> f64
     ensures { λ r. ⌜ r ≡ orNan (sumRule term x y table3n) ⌝ }
 {
-    let mut wi = [0.0; 129];
-    let mut wj = [0.0; 129];
+    if both_usual(x, y) {
+        let mut wi = [0.0; 129];
+        let mut wj = [0.0; 129];
+        let is = I3N;
+        let js = J3N;
+        let ns = N3N;
+        fill_bare(x, 18, 0, &mut wi);
+        fill_bare(y, 6, 12, &mut wj);
+        return checked_once(plain_sum(&wi, &wj, &is, &js, &ns));
+    }
     let is = I3N;
     let js = J3N;
     let ns = N3N;
-    fill_powers(x, 18, 0, &mut wi);
-    fill_powers(y, 6, 12, &mut wj);
-    gated(x, y, plain_sum(&wi, &wj, &is, &js, &ns))
+    raw_sum(Order::Zero, Order::Zero, x, y, &is, &js, &ns)
 }
 
 // v3o(p,T)
@@ -232,14 +241,20 @@ const N3O: [f64; 24] = [
 pub fn sum_o(x: f64, y: f64) -> f64
     ensures { λ r. ⌜ r ≡ orNan (sumRule term x y table3o) ⌝ }
 {
-    let mut wi = [0.0; 129];
-    let mut wj = [0.0; 129];
+    if both_usual(x, y) {
+        let mut wi = [0.0; 129];
+        let mut wj = [0.0; 129];
+        let is = I3O;
+        let js = J3O;
+        let ns = N3O;
+        fill_bare(x, 24, 0, &mut wi);
+        fill_bare(y, 0, 12, &mut wj);
+        return checked_once(plain_sum(&wi, &wj, &is, &js, &ns));
+    }
     let is = I3O;
     let js = J3O;
     let ns = N3O;
-    fill_powers(x, 24, 0, &mut wi);
-    fill_powers(y, 0, 12, &mut wj);
-    gated(x, y, plain_sum(&wi, &wj, &is, &js, &ns))
+    raw_sum(Order::Zero, Order::Zero, x, y, &is, &js, &ns)
 }
 
 // v3p(p,T)
@@ -336,14 +351,20 @@ const N3P: [f64; 27] = [
 pub fn sum_p(x: f64, y: f64) -> f64
     ensures { λ r. ⌜ r ≡ orNan (sumRule term x y table3p) ⌝ }
 {
-    let mut wi = [0.0; 129];
-    let mut wj = [0.0; 129];
+    if both_usual(x, y) {
+        let mut wi = [0.0; 129];
+        let mut wj = [0.0; 129];
+        let is = I3P;
+        let js = J3P;
+        let ns = N3P;
+        fill_bare(x, 36, 0, &mut wi);
+        fill_bare(y, 2, 12, &mut wj);
+        return checked_once(plain_sum(&wi, &wj, &is, &js, &ns));
+    }
     let is = I3P;
     let js = J3P;
     let ns = N3P;
-    fill_powers(x, 36, 0, &mut wi);
-    fill_powers(y, 2, 12, &mut wj);
-    gated(x, y, plain_sum(&wi, &wj, &is, &js, &ns))
+    raw_sum(Order::Zero, Order::Zero, x, y, &is, &js, &ns)
 }
 
 // v3q(p,T)
@@ -431,14 +452,20 @@ const N3Q: [f64; 24] = [
 pub fn sum_q(x: f64, y: f64) -> f64
     ensures { λ r. ⌜ r ≡ orNan (sumRule term x y table3q) ⌝ }
 {
-    let mut wi = [0.0; 129];
-    let mut wj = [0.0; 129];
+    if both_usual(x, y) {
+        let mut wi = [0.0; 129];
+        let mut wj = [0.0; 129];
+        let is = I3Q;
+        let js = J3Q;
+        let ns = N3Q;
+        fill_bare(x, 1, 12, &mut wi);
+        fill_bare(y, 12, 0, &mut wj);
+        return checked_once(plain_sum(&wi, &wj, &is, &js, &ns));
+    }
     let is = I3Q;
     let js = J3Q;
     let ns = N3Q;
-    fill_powers(x, 1, 12, &mut wi);
-    fill_powers(y, 12, 0, &mut wj);
-    gated(x, y, plain_sum(&wi, &wj, &is, &js, &ns))
+    raw_sum(Order::Zero, Order::Zero, x, y, &is, &js, &ns)
 }
 
 // v3r(p,T)
@@ -535,14 +562,20 @@ const N3R: [f64; 27] = [
 pub fn sum_r(x: f64, y: f64) -> f64
     ensures { λ r. ⌜ r ≡ orNan (sumRule term x y table3r) ⌝ }
 {
-    let mut wi = [0.0; 129];
-    let mut wj = [0.0; 129];
+    if both_usual(x, y) {
+        let mut wi = [0.0; 129];
+        let mut wj = [0.0; 129];
+        let is = I3R;
+        let js = J3R;
+        let ns = N3R;
+        fill_bare(x, 14, 8, &mut wi);
+        fill_bare(y, 14, 12, &mut wj);
+        return checked_once(plain_sum(&wi, &wj, &is, &js, &ns));
+    }
     let is = I3R;
     let js = J3R;
     let ns = N3R;
-    fill_powers(x, 14, 8, &mut wi);
-    fill_powers(y, 14, 12, &mut wj);
-    gated(x, y, plain_sum(&wi, &wj, &is, &js, &ns))
+    raw_sum(Order::Zero, Order::Zero, x, y, &is, &js, &ns)
 }
 
 // v3s(p,T)
@@ -645,14 +678,20 @@ const N3S: [f64; 29] = [
 pub fn sum_s(x: f64, y: f64) -> f64
     ensures { λ r. ⌜ r ≡ orNan (sumRule term x y table3s) ⌝ }
 {
-    let mut wi = [0.0; 129];
-    let mut wj = [0.0; 129];
+    if both_usual(x, y) {
+        let mut wi = [0.0; 129];
+        let mut wj = [0.0; 129];
+        let is = I3S;
+        let js = J3S;
+        let ns = N3S;
+        fill_bare(x, 14, 12, &mut wi);
+        fill_bare(y, 36, 0, &mut wj);
+        return checked_once(plain_sum(&wi, &wj, &is, &js, &ns));
+    }
     let is = I3S;
     let js = J3S;
     let ns = N3S;
-    fill_powers(x, 14, 12, &mut wi);
-    fill_powers(y, 36, 0, &mut wj);
-    gated(x, y, plain_sum(&wi, &wj, &is, &js, &ns))
+    raw_sum(Order::Zero, Order::Zero, x, y, &is, &js, &ns)
 }
 
 // v3t(p,T)
@@ -767,12 +806,18 @@ const N3T: [f64; 33] = [
 pub fn sum_t(x: f64, y: f64) -> f64
     ensures { λ r. ⌜ r ≡ orNan (sumRule term x y table3t) ⌝ }
 {
-    let mut wi = [0.0; 129];
-    let mut wj = [0.0; 129];
+    if both_usual(x, y) {
+        let mut wi = [0.0; 129];
+        let mut wj = [0.0; 129];
+        let is = I3T;
+        let js = J3T;
+        let ns = N3T;
+        fill_bare(x, 36, 0, &mut wi);
+        fill_bare(y, 36, 0, &mut wj);
+        return checked_once(plain_sum(&wi, &wj, &is, &js, &ns));
+    }
     let is = I3T;
     let js = J3T;
     let ns = N3T;
-    fill_powers(x, 36, 0, &mut wi);
-    fill_powers(y, 36, 0, &mut wj);
-    gated(x, y, plain_sum(&wi, &wj, &is, &js, &ns))
+    raw_sum(Order::Zero, Order::Zero, x, y, &is, &js, &ns)
 }

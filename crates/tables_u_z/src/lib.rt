@@ -1,7 +1,10 @@
 // Tables of S05rev by column, and the sum of each.
-use algo::gated;
+use algo::Order;
+use algo::both_usual;
+use algo::checked_once;
 use algo::plain_sum;
-use powers::fill_powers;
+use polynomial::raw_sum;
+use powers::fill_bare;
 ghost use mathlib.Core.Path.{_≡_};
 ghost use Rattle.common.specs.Outcome.{orNan};
 ghost use Rattle.algo.specs.Table.{sumRule, term};
@@ -134,14 +137,20 @@ const N3U: [f64; 38] = [
 pub fn sum_u(x: f64, y: f64) -> f64
     ensures { λ r. ⌜ r ≡ orNan (sumRule term x y table3u) ⌝ }
 {
-    let mut wi = [0.0; 129];
-    let mut wj = [0.0; 129];
+    if both_usual(x, y) {
+        let mut wi = [0.0; 129];
+        let mut wj = [0.0; 129];
+        let is = I3U;
+        let js = J3U;
+        let ns = N3U;
+        fill_bare(x, 14, 12, &mut wi);
+        fill_bare(y, 14, 12, &mut wj);
+        return checked_once(plain_sum(&wi, &wj, &is, &js, &ns));
+    }
     let is = I3U;
     let js = J3U;
     let ns = N3U;
-    fill_powers(x, 14, 12, &mut wi);
-    fill_powers(y, 14, 12, &mut wj);
-    gated(x, y, plain_sum(&wi, &wj, &is, &js, &ns))
+    raw_sum(Order::Zero, Order::Zero, x, y, &is, &js, &ns)
 }
 
 // v3v(p,T)
@@ -274,14 +283,20 @@ const N3V: [f64; 39] = [
 pub fn sum_v(x: f64, y: f64) -> f64
     ensures { λ r. ⌜ r ≡ orNan (sumRule term x y table3v) ⌝ }
 {
-    let mut wi = [0.0; 129];
-    let mut wj = [0.0; 129];
+    if both_usual(x, y) {
+        let mut wi = [0.0; 129];
+        let mut wj = [0.0; 129];
+        let is = I3V;
+        let js = J3V;
+        let ns = N3V;
+        fill_bare(x, 14, 10, &mut wi);
+        fill_bare(y, 14, 12, &mut wj);
+        return checked_once(plain_sum(&wi, &wj, &is, &js, &ns));
+    }
     let is = I3V;
     let js = J3V;
     let ns = N3V;
-    fill_powers(x, 14, 10, &mut wi);
-    fill_powers(y, 14, 12, &mut wj);
-    gated(x, y, plain_sum(&wi, &wj, &is, &js, &ns))
+    raw_sum(Order::Zero, Order::Zero, x, y, &is, &js, &ns)
 }
 
 // v3w(p,T)
@@ -402,14 +417,20 @@ const N3W: [f64; 35] = [
 pub fn sum_w(x: f64, y: f64) -> f64
     ensures { λ r. ⌜ r ≡ orNan (sumRule term x y table3w) ⌝ }
 {
-    let mut wi = [0.0; 129];
-    let mut wj = [0.0; 129];
+    if both_usual(x, y) {
+        let mut wi = [0.0; 129];
+        let mut wj = [0.0; 129];
+        let is = I3W;
+        let js = J3W;
+        let ns = N3W;
+        fill_bare(x, 10, 12, &mut wi);
+        fill_bare(y, 14, 12, &mut wj);
+        return checked_once(plain_sum(&wi, &wj, &is, &js, &ns));
+    }
     let is = I3W;
     let js = J3W;
     let ns = N3W;
-    fill_powers(x, 10, 12, &mut wi);
-    fill_powers(y, 14, 12, &mut wj);
-    gated(x, y, plain_sum(&wi, &wj, &is, &js, &ns))
+    raw_sum(Order::Zero, Order::Zero, x, y, &is, &js, &ns)
 }
 
 // v3x(p,T)
@@ -533,14 +554,20 @@ const N3X: [f64; 36] = [
 pub fn sum_x(x: f64, y: f64) -> f64
     ensures { λ r. ⌜ r ≡ orNan (sumRule term x y table3x) ⌝ }
 {
-    let mut wi = [0.0; 129];
-    let mut wj = [0.0; 129];
+    if both_usual(x, y) {
+        let mut wi = [0.0; 129];
+        let mut wj = [0.0; 129];
+        let is = I3X;
+        let js = J3X;
+        let ns = N3X;
+        fill_bare(x, 14, 8, &mut wi);
+        fill_bare(y, 14, 12, &mut wj);
+        return checked_once(plain_sum(&wi, &wj, &is, &js, &ns));
+    }
     let is = I3X;
     let js = J3X;
     let ns = N3X;
-    fill_powers(x, 14, 8, &mut wi);
-    fill_powers(y, 14, 12, &mut wj);
-    gated(x, y, plain_sum(&wi, &wj, &is, &js, &ns))
+    raw_sum(Order::Zero, Order::Zero, x, y, &is, &js, &ns)
 }
 
 // v3y(p,T)
@@ -595,14 +622,20 @@ const N3Y: [f64; 20] = [
 pub fn sum_y(x: f64, y: f64) -> f64
     ensures { λ r. ⌜ r ≡ orNan (sumRule term x y table3y) ⌝ }
 {
-    let mut wi = [0.0; 129];
-    let mut wj = [0.0; 129];
+    if both_usual(x, y) {
+        let mut wi = [0.0; 129];
+        let mut wj = [0.0; 129];
+        let is = I3Y;
+        let js = J3Y;
+        let ns = N3Y;
+        fill_bare(x, 12, 0, &mut wi);
+        fill_bare(y, 8, 8, &mut wj);
+        return checked_once(plain_sum(&wi, &wj, &is, &js, &ns));
+    }
     let is = I3Y;
     let js = J3Y;
     let ns = N3Y;
-    fill_powers(x, 12, 0, &mut wi);
-    fill_powers(y, 8, 8, &mut wj);
-    gated(x, y, plain_sum(&wi, &wj, &is, &js, &ns))
+    raw_sum(Order::Zero, Order::Zero, x, y, &is, &js, &ns)
 }
 
 // v3z(p,T)
@@ -689,12 +722,18 @@ const N3Z: [f64; 23] = [
 pub fn sum_z(x: f64, y: f64) -> f64
     ensures { λ r. ⌜ r ≡ orNan (sumRule term x y table3z) ⌝ }
 {
-    let mut wi = [0.0; 129];
-    let mut wj = [0.0; 129];
+    if both_usual(x, y) {
+        let mut wi = [0.0; 129];
+        let mut wj = [0.0; 129];
+        let is = I3Z;
+        let js = J3Z;
+        let ns = N3Z;
+        fill_bare(x, 8, 8, &mut wi);
+        fill_bare(y, 8, 8, &mut wj);
+        return checked_once(plain_sum(&wi, &wj, &is, &js, &ns));
+    }
     let is = I3Z;
     let js = J3Z;
     let ns = N3Z;
-    fill_powers(x, 8, 8, &mut wi);
-    fill_powers(y, 8, 8, &mut wj);
-    gated(x, y, plain_sum(&wi, &wj, &is, &js, &ns))
+    raw_sum(Order::Zero, Order::Zero, x, y, &is, &js, &ns)
 }

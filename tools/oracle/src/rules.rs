@@ -23,17 +23,19 @@ fn step(x: f64) -> Result<f64, u8> {
     }
 }
 
-/// a^n by the bits of |n| from the lowest. A square of a that is not finite shows in r, since the
-/// highest bit is always set.
+/// a^n by the bits of |n| from the lowest. Each r and the result are looked at: one that is not
+/// finite is refused, and of a base that is not 0 one that is below the normal range, 0 included.
+/// A square of a that is lost shows in r, since the highest bit is always set.
 pub fn power(a: f64, n: i32) -> Result<f64, u8> {
     argument(a)?;
     if n < POWER.0 || n > POWER.1 {
         return Err(SECOND);
     }
+    let whole = |r: f64| if a != 0.0 && r.abs() < f64::MIN_POSITIVE { Err(STEP) } else { step(r) };
     let (mut r, mut a, mut bits) = (1.0, a, n.unsigned_abs());
     while bits > 0 {
         if bits & 1 == 1 {
-            r = step(r * a)?;
+            r = whole(r * a)?;
         }
         bits >>= 1;
         if bits > 0 {
@@ -41,7 +43,7 @@ pub fn power(a: f64, n: i32) -> Result<f64, u8> {
         }
     }
     if n < 0 {
-        step(1.0 / r)
+        whole(1.0 / r)
     } else {
         Ok(r)
     }

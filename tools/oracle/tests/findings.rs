@@ -353,10 +353,17 @@ fn rules_and_std() {
     assert!(ln <= 1 && exp.0 > 500);
 }
 
-/// 5 comes from calls by letter, and from base 0 in (h,s).
+/// 5 comes from calls by letter, from base 0 in (h,s), and from powers that have lost their digits: in (p,T)
+/// those of p / 23 - 1 in letter m.
 #[test]
 fn where_5_comes_from() {
-    for entry in [7, 8, 10, 11, 12, 13, 14, 15, 20, 21, 22, 23, 25, 30, 34] {
+    for entry in [10, 21, 30] {
+        for row in rows(entry, 100_000).filter(|row| answer(row).refusal == 5) {
+            let near = row.first - 23.0;
+            assert!(near != 0.0 && near.abs() < 2.4e-10, "entry {entry}: {row:?}");
+        }
+    }
+    for entry in [7, 8, 11, 12, 13, 14, 15, 20, 22, 23, 25, 34] {
         let refused = rows(entry, 100_000)
             .filter(|row| answer(row).refusal == 5)
             .count();

@@ -26,17 +26,19 @@ fn literal_power(a: f64, n: i32) -> Result<f64, u8> {
         return Err(3);
     }
     let bits: Vec<char> = format!("{:b}", i64::from(n).abs()).chars().rev().collect();
-    let (mut r, mut square) = (1.0, a);
+    let (mut r, mut square, mut seen) = (1.0f64, a, Vec::new());
     for (i, bit) in bits.iter().enumerate() {
         if *bit == '1' {
             r *= square;
+            seen.push(r);
         }
         if i + 1 < bits.len() {
             square *= square;
         }
     }
     let answer = if n < 0 { 1.0 / r } else { r };
-    if r.is_finite() && answer.is_finite() {
+    seen.push(answer);
+    if seen.iter().all(|x| x.is_normal() || x.is_finite() && a == 0.0) {
         Ok(answer)
     } else {
         Err(5)
@@ -187,4 +189,24 @@ fn document_01_points() {
         "r is not finite, though 1/r would be 0"
     );
     assert_eq!(exponential(700.1), Err(2));
+}
+
+/// Below the smallest normal f64 a power of a base that is not 0 has lost its digits.
+#[test]
+fn lost_digits() {
+    let two = |e: i32| 2.0f64.powi(e);
+    let next = |x: f64| f64::from_bits(x.to_bits() + 1);
+    let least = f64::MIN_POSITIVE;
+    assert_eq!(power(two(-511), 2), Ok(least));
+    assert_eq!(power(two(-512), 2), Err(5));
+    assert_eq!(power(1e-7, 64), Err(5));
+    assert_eq!(power(least, 1), Ok(least));
+    assert_eq!(power(f64::from_bits(least.to_bits() - 1), 1), Err(5));
+    assert_eq!(power(two(1022), -1), Ok(least));
+    assert_eq!(power(next(two(1022)), -1), Err(5));
+    assert_eq!(power(f64::from_bits(1 << 51), -1), Err(5), "r itself is 2^-1023");
+    assert_eq!(power(0.0, 3), Ok(0.0));
+    assert_eq!(power(-0.0, 3).map(f64::to_bits), Ok((-0.0f64).to_bits()));
+    assert_eq!(power(0.0, -3), Err(5));
+    assert_eq!(power(f64::from_bits(1), 0), Ok(1.0));
 }

@@ -1,47 +1,55 @@
--- `powers::fill_powers` meets its contract: upward as far as either end goes, and then downward.
-use mathlib.Core.Path.{_≡_}
-use mathlib.Core.Logic.{⊎-elim}
+-- `powers::fill_powers` meets its contract: at a usual base the powers by doubling are the rule's, and at any other each is worked by it.
+use mathlib.Core.Path.{_≡_, refl, sym, _∙_, ap}
+use mathlib.Core.Bool.{true}
 use Prim.Native.Nat.{ℕ, _+_, _-_, _≤_}
 use native.Mathlib.Omega.{arith}
 use borrow.Author.Needs.{needs}
+use Rattle.sizes.specs.Usual.{usualBase}
 use Rattle.powers.specs.Powers.{capped, highest}
-use Rattle.powers.proofs.Doubling.{written-same}
+use Rattle.powers.proofs.Highest.{Top, top-is}
+use Rattle.powers.proofs.Ruled.{usual-written}
 use Rattle.powers.proofs.fill_powers.Statement.{statement}
 use Rattle.powers.proofs.fill_powers.Tie as tie
 
--- the top is the higher of the two
-record Top (up down top : ℕ) : Type 0 where
-  is : top ≡ highest up down
-  low : capped down ≤ top
-  small : top ≤ 64
+top : (c : tie.After-past-seven) → let a = c .before .before .before .before .before .before .args in Top (a .up) (a .down) (c .before .top-of .result)
+top c = top-is _ _ _ _ _ (c .before .before .cap2 .ensures) (c .before .before .before .cap .ensures) (c .before .top-of .ensures)
 
-top-is : (c : tie.Joined1) → Top (c .before .before .before .args .up) (c .before .before .before .args .down) (c .if1 .top)
-top-is c =
-    let h = c .before .before .cap .ensures in
-    let l = c .before .cap2 .ensures in
-    ⊎-elim
-    (λ w. record { is = omega (arith, h, l); low = omega (arith, h, l); small = omega (arith, h, l) })
-    (λ w. record { is = omega (arith, h, l); low = omega (arith, h, l); small = omega (arith, h, l) })
-    (c .if1 .came)
+fill-by-rule-requires : tie.Need-fill-by-rule-requires
+fill-by-rule-requires c κs =
+    let p = c .before in
+    (omega arith, omega (arith, top p .small, p .past-seven .ensures))
 
-fill-up-requires : tie.Need-fill-up-requires
-fill-up-requires c κs = top-is (c .before .before) .small
-
-fill-down-requires : tie.Need-fill-down-requires
-fill-down-requires c κs = omega (arith, c .before .before .before .before .before .cap2 .ensures)
+within : (up down : ℕ) → 72 + (highest up down - 7) ≤ 129
+within up down = omega arith
 
 returns : tie.Need-returns
 returns c =
-    let j = c .before .before .before .before .before in
-    let a = j .before .before .before .args in
-    let l = j .before .cap2 .ensures in
-    let t = top-is j in
-    let top = j .if1 .top in
-    record {
-      stand = λ e.
-          rw l at (rw (t .is) at (c .fill-down .ensures (a .a) (a .w .now) (72 + (top - 7)) (omega (arith, l, t .low)) (c .before .before .fill-up .ensures e)));
-    }
+    let s = c .before .before .before .before in
+    let a = s .args in
+    let u : usualBase (a .a) ≡ true = cc in
+    record { stand = λ e. usual-written (a .a) (a .w .now) _ (64 - capped (a .down)) (72 + (highest (a .up) (a .down) - 7)) (within (a .up) (a .down)) u (c .fill-bare .ensures .stand e) }
+
+returns-2 : tie.Need-returns-2
+returns-2 c =
+    let p = c .before .before in
+    let low = p .before .before .before .cap .ensures in
+    let end = p .past-seven .ensures ∙ ap (λ (t : ℕ). t - 7) (top p .is) in
+    record { stand = λ e. rw (low, end) at (c .fill-by-rule .ensures e) }
 
 pub fill-powers-spec : {M : Type 1} → statement M
 fill-powers-spec =
-    tie.close (tie.spec (λ c κs. search needs) (λ c κs. search needs) fill-up-requires fill-down-requires returns)
+    tie.close
+    (tie.spec
+    (λ c κs. search needs)
+    (λ c κs. search needs)
+    (λ c κs. search needs)
+    (λ c κs. search needs)
+    (λ c κs. search needs)
+    (λ c κs. search needs)
+    (λ c. search needs)
+    (λ c. search needs)
+    (λ c. search needs)
+    (λ c. search needs)
+    fill-by-rule-requires
+    returns
+    returns-2)

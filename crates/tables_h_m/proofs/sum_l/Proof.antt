@@ -16,6 +16,8 @@ unfolding rowsOf every plus minus scaled ofBits table3l
 sum-l-spec =
     tie.close
     (tie.spec
-    (λ c κs. search needs) (λ c κs. search needs)
+    (λ c κs. search needs) (λ c κs. search needs) (λ c κs. search needs)
     (λ c. search needs) (λ c. search needs) (λ c. search needs) (λ c. search needs) (λ c. search needs) (λ c. search needs) (λ c. search needs) (λ c. search needs) (λ c. search needs) (λ c κs. search needs) (λ c κs. search needs)
-    (λ c. one-sum (c .before .before .before .before .before .before .before .before .before .before .before .before .fill-powers .ensures) (c .before .before .before .before .before .before .before .before .before .before .fill-powers2 .ensures) (c .before .plain-sum .ensures) (c .gated .ensures) refl refl tt))
+    (λ c. search one-sum)
+    (λ c. search needs) (λ c. search needs) (λ c. search needs) (λ c. search needs) (λ c. search needs) (λ c. search needs) (λ c. search needs) (λ c. search needs) (λ c. search needs) (λ c κs. search needs)
+    (λ c. search needs))

@@ -11,6 +11,8 @@ use Rattle.r4.specs.Saturation.{T-saturation}
 use Rattle.choosers.specs.Choosers.{uvwxBy, uyzxBy, saturatedBy}
 use Rattle.r4.proofs.Raw.{T-checked}
 use Rattle.boundary.specs.Choice.{nearRule}
+use Rattle.boundary.specs.Raw.{Bare}
+use Rattle.boundary.proofs.TableSums.{in-p}
 use Rattle.choosers.proofs.Tests.{gate}
 use borrow.Author.Needs.{needs}
 use Rattle.boundary.proofs.bands.band_near.Statement.{statement}
@@ -18,55 +20,55 @@ use Rattle.boundary.proofs.bands.band_near.Tie as tie
 
 -- the letter by the bands of p, if none of the boundaries is lost
 whole : (c : tie.After-all-finite) →
-    let tuv = c .before .before .before .before .tabled .result in
-    let twx = c .before .before .before .tabled2 .result in
+    let tuv = c .before .before .before .before .bare-tabled .result in
+    let twx = c .before .before .before .tabled .result in
     let tef = c .before .before .straight .result in
     let a = c .before .before .before .before .before .args in
-    nearRule (a .p) (a .t)
+    Bare (a .p) → nearRule (a .p) (a .t)
     ≡ cond (every finite (tuv ∷ twx ∷ tef ∷ []))
     (cond (lt (decimal 22_11 2) (a .p)) (value (uvwxBy tuv tef twx (a .t)))
     (cond (lt (decimal 22_064 3) (a .p)) (value (uyzxBy tuv tef twx (a .t)))
     (then (T-saturation (a .p)) (λ tsat. value (saturatedBy tsat tuv twx (a .p) (a .t))))))
     (refused 5)
 unfolding nearRule every
-whole c =
-    let tuv = c .before .before .before .before .tabled .result in
-    let twx = c .before .before .before .tabled2 .result in
+whole c bare =
+    let tuv = c .before .before .before .before .bare-tabled .result in
+    let twx = c .before .before .before .tabled .result in
     let tef = c .before .before .straight .result in
-    rw (← c .before .before .before .before .tabled .ensures, ← c .before .before .before .tabled2 .ensures, ← c .before .before .straight .ensures) (gate tuv _ _ _ (gate twx _ _ _ (gate tef _ _ _ refl)))
+    rw (← in-p 9 _ _ bare tt (c .before .before .before .before .bare-tabled .ensures), ← c .before .before .before .tabled .ensures, ← c .before .before .straight .ensures) (gate tuv _ _ _ (gate twx _ _ _ (gate tef _ _ _ refl)))
 
 returns : tie.Need-returns
 unfolding decimal plus minus scaled round ofBits
-returns c =
+returns c bare =
     let d = c .before .before .before in
-    rw (c .by-uvwx .ensures, whole d, ← d .all-finite .ensures, c .before .before .if1 .taken, c .before .if2 .taken)
+    rw (c .by-uvwx .ensures, whole d bare, ← d .all-finite .ensures, c .before .before .if1 .taken, c .before .if2 .taken)
 
 returns-2 : tie.Need-returns-2
 unfolding decimal plus minus scaled round ofBits
-returns-2 c =
+returns-2 c bare =
     let d = c .before .before .before .before in
-    rw (c .by-uyzx .ensures, whole d, ← d .all-finite .ensures, c .before .before .before .if1 .taken, c .before .before .if2 .left, c .before .if3 .taken)
+    rw (c .by-uyzx .ensures, whole d bare, ← d .all-finite .ensures, c .before .before .before .if1 .taken, c .before .before .if2 .left, c .before .if3 .taken)
 
 returns-3 : tie.Need-returns-3
 unfolding decimal plus minus scaled round ofBits
-returns-3 c =
+returns-3 c bare =
     let s = c .before .before .before in
     let e = s .before in
     let d = e .before .before .before in
     let f : finite (s .raw-T-saturation .result) ≡ true = sym (c .before .before .is-finite .ensures) ∙ c .before .if4 .taken in
-    rw (c .by-saturated .ensures, whole d, ← d .all-finite .ensures, e .before .before .if1 .taken, e .before .if2 .left, e .if3 .left, ← T-checked _ (s .raw-T-saturation .ensures), check-kept (s .raw-T-saturation .result) f)
+    rw (c .by-saturated .ensures, whole d bare, ← d .all-finite .ensures, e .before .before .if1 .taken, e .before .if2 .left, e .if3 .left, ← T-checked _ (s .raw-T-saturation .ensures), check-kept (s .raw-T-saturation .result) f)
 
 returns-4 : tie.Need-returns-4
 unfolding decimal plus minus scaled round ofBits
-returns-4 c =
+returns-4 c bare =
     let s = c .before .before in
     let e = s .before in
     let d = e .before .before .before in
     let f : finite (s .raw-T-saturation .result) ≡ false = sym (c .before .is-finite .ensures) ∙ c .if4 .left in
-    rw (whole d, ← d .all-finite .ensures, e .before .before .if1 .taken, e .before .if2 .left, e .if3 .left, ← T-checked _ (s .raw-T-saturation .ensures), check-lost (s .raw-T-saturation .result) f)
+    rw (whole d bare, ← d .all-finite .ensures, e .before .before .if1 .taken, e .before .if2 .left, e .if3 .left, ← T-checked _ (s .raw-T-saturation .ensures), check-lost (s .raw-T-saturation .result) f)
 
 returns-5 : tie.Need-returns-5
-returns-5 c = rw (whole (c .before), ← c .before .all-finite .ensures, c .if1 .left)
+returns-5 c bare = rw (whole (c .before) bare, ← c .before .all-finite .ensures, c .if1 .left)
 
 pub band-near-spec : {M : Type 1} → statement M
 band-near-spec =

@@ -6,7 +6,7 @@ use Rattle.boundary.proofs.boundaries.worked.Statement.{statement}
 use Rattle.boundary.proofs.boundaries.worked.Tie as tie
 
 returns : tie.Need-returns
-returns c = rw (c .raw-power .ensures, toZ-ofZ w32 (c .before .args .i) (c .before .fits .i))
+returns c = rw (c .bare-power .ensures, toZ-ofZ w32 (c .before .args .i) (c .before .fits .i))
 
 pub worked-spec : {M : Type 1} → statement M
 worked-spec = tie.close (tie.spec (λ c κs. search needs) returns)

@@ -9,8 +9,8 @@ use lib.Ieee.{Float, binary64, mul}
 use borrow.Author.Tests.{eq-eqb, ne-eqb}
 use borrow.Fn.Kinds.{In}
 use borrow.Fn.PlainCycle.{Measures, is, falls, and}
-use Rattle.rules.specs.Power.{times, odd}
-use Rattle.rules.specs.RawPower.{rawByBits, rawHigherBits}
+use Rattle.rules.specs.Power.{odd}
+use Rattle.rules.specs.RawPower.{times, rawByBits, rawHigherBits}
 use Rattle.rules.proofs.powi.by_bits.Reads as by-bits
 use Rattle.rules.proofs.powi.by_bits.Kinds as by-bits-kinds
 use Rattle.rules.proofs.powi.+by_bits.Lts-by_bits as by-bits-lts

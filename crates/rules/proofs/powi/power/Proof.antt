@@ -1,4 +1,4 @@
--- `rules::power` meets its contract: the tests, and then the raw power checked once. Assumes nothing.
+-- `rules::power` meets its contract: the tests, and then the power with no look at a usual base, and with a look at each r at any other. Assumes nothing.
 use mathlib.Core.Path.{_≡_, sym, _∙_, ap}
 use mathlib.Core.Bool.{true, false}
 use lib.Dec.{leb}
@@ -8,39 +8,57 @@ use mir.ValLaws.{toZ-ofZ}
 use borrow.Author.Needs.{needs}
 use borrow.Author.Tests.{le-leb, lt-leb}
 use Rattle.common.specs.Outcome.{finite, check}
+use Rattle.sizes.specs.Usual.{usualBase}
 use Rattle.rules.specs.Power.{powerRule}
-use Rattle.rules.specs.RawPower.{rawPower}
-use Rattle.rules.proofs.Powers.{power-check}
+use Rattle.rules.specs.RawPower.{rawPower, keptPower}
+use Rattle.rules.proofs.Powers.{power-kept}
+use Rattle.rules.proofs.Usual.{power-usual}
 use Rattle.rules.proofs.powi.power.Statement.{statement}
 use Rattle.rules.proofs.powi.power.Tie as tie
 
-size : (c : tie.After-magnitude) → c .magnitude .result ≡ natAbs (c .before .before .before .args .n)
-size c = c .magnitude .ensures ∙ ap natAbs (toZ-ofZ w32 (c .before .before .before .args .n) (c .before .before .before .fits .n))
+size : (c : tie.After-magnitude) → c .magnitude .result ≡ natAbs (c .before .args .n)
+size c = c .magnitude .ensures ∙ ap natAbs (toZ-ofZ w32 (c .before .args .n) (c .before .fits .n))
+
+few : (c : tie.Then1) → leb (natAbs (c .before .before .args .n)) 64 ≡ true
+few c = rw (sym (size (c .before))) (le-leb _ _ (c .if1 .taken))
+
+many : (c : tie.Else1) → leb (natAbs (c .before .before .args .n)) 64 ≡ false
+many c = rw (sym (size (c .before))) (lt-leb _ _ (c .if1 .left))
 
 returns : tie.Need-returns
 returns c =
-    let m = c .before .before .before in
-    let a = m .before .before .before .args in
-    let fa : finite (a .a) ≡ true = cc in
-    let small : leb (natAbs (a .n)) 64 ≡ true = rw (sym (size m)) (le-leb _ _ (c .before .before .if2 .taken)) in
+    let t = c .before .before .before .before in
+    let s = t .before .before in
+    let a = s .args in
+    let u : usualBase (a .a) ≡ true = cc in
     c .settle .ensures
-    ∙ ap check (c .before .raw-power .ensures ∙ ap (rawPower (a .a)) (toZ-ofZ w32 (a .n) (m .before .before .before .fits .n)))
-    ∙ sym (power-check (a .a) (a .n) fa small)
+    ∙ ap check (c .before .bare-power .ensures ∙ ap (rawPower (a .a)) (toZ-ofZ w32 (a .n) (s .fits .n)))
+    ∙ sym (power-usual (a .a) (a .n) u (few t))
 
 returns-2 : tie.Need-returns-2
-unfolding powerRule
 returns-2 c =
-    let m = c .before in
-    let a = m .before .before .before .args in
-    let fa : finite (a .a) ≡ true = cc in
-    let big : leb (natAbs (a .n)) 64 ≡ false = rw (sym (size m)) (lt-leb _ _ (c .if2 .left)) in
-    rw (fa, big)
+    let t = c .before .before .before .before .before .before in
+    let s = t .before .before in
+    let a = s .args in
+    let f : finite (a .a) ≡ true = cc in
+    c .settle2 .ensures
+    ∙ ap check (c .before .looked-power .ensures ∙ ap (keptPower (a .a)) (toZ-ofZ w32 (a .n) (s .fits .n)))
+    ∙ sym (power-kept (a .a) (a .n) f (few t))
 
 returns-3 : tie.Need-returns-3
 unfolding powerRule
-returns-3 c =
-    let fa : finite (c .before .before .args .a) ≡ false = cc in
-    rw fa
+returns-3 c = let f : finite (c .before .before .before .before .before .before .args .a) ≡ false = cc in rw f
+
+returns-4 : tie.Need-returns-4
+unfolding powerRule
+returns-4 c =
+    let t = c .before .before in
+    let f : finite (t .before .before .args .a) ≡ true = cc in
+    rw (f, many t)
+
+returns-5 : tie.Need-returns-5
+unfolding powerRule
+returns-5 c = let f : finite (c .before .before .before .before .args .a) ≡ false = cc in rw f
 
 pub power-spec : {M : Type 1} → statement M
 power-spec =
@@ -51,5 +69,11 @@ power-spec =
     (λ c κs. search needs)
     (λ c κs. search needs)
     returns
+    (λ c κs. search needs)
+    (λ c κs. search needs)
+    (λ c κs. search needs)
     returns-2
-    returns-3)
+    returns-3
+    (λ c κs. search needs)
+    returns-4
+    returns-5)

@@ -1,0 +1,12 @@
+-- `boundary::ruled` meets its contract. Assumes nothing.
+use mir.Syntax.{w32}
+use mir.ValLaws.{toZ-ofZ}
+use borrow.Author.Needs.{needs}
+use Rattle.boundary.proofs.boundaries.ruled.Statement.{statement}
+use Rattle.boundary.proofs.boundaries.ruled.Tie as tie
+
+returns : tie.Need-returns
+returns c = rw (c .raw-power .ensures, toZ-ofZ w32 (c .before .args .i) (c .before .fits .i))
+
+pub ruled-spec : {M : Type 1} → statement M
+ruled-spec = tie.close (tie.spec (λ c κs. search needs) returns)

@@ -1,0 +1,32 @@
+-- `powers::fill_bare` meets its contract: upward as far as either end goes, and then downward.
+use mathlib.Core.Path.{_≡_}
+use Prim.Native.Nat.{ℕ, _+_, _-_, _≤_}
+use native.Mathlib.Omega.{arith}
+use borrow.Author.Needs.{needs}
+use Rattle.powers.proofs.Highest.{Top, top-is}
+use Rattle.powers.proofs.fill_bare.Statement.{statement}
+use Rattle.powers.proofs.fill_bare.Tie as tie
+
+top : (c : tie.After-top-of) → Top (c .before .before .before .args .up) (c .before .before .before .args .down) (c .top-of .result)
+top c = top-is _ _ _ _ _ (c .before .before .cap .ensures) (c .before .cap2 .ensures) (c .top-of .ensures)
+
+fill-up-requires : tie.Need-fill-up-requires
+fill-up-requires c κs = top (c .before) .small
+
+fill-down-requires : tie.Need-fill-down-requires
+fill-down-requires c κs = omega (arith, c .before .before .before .before .cap2 .ensures)
+
+returns : tie.Need-returns
+returns c =
+    let j = c .before .before .before .before in
+    let a = j .before .before .before .args in
+    let l = j .before .cap2 .ensures in
+    let t = top j in
+    record {
+      stand = λ e.
+          rw l at (rw (t .is) at (c .fill-down .ensures (a .a) (a .w .now) (72 + (j .top-of .result - 7)) (omega (arith, l, t .low)) (c .before .before .fill-up .ensures e)));
+    }
+
+pub fill-bare-spec : {M : Type 1} → statement M
+fill-bare-spec =
+    tie.close (tie.spec (λ c κs. search needs) (λ c κs. search needs) (λ c κs. search needs) (λ c. search needs) fill-up-requires fill-down-requires returns)

@@ -1,0 +1,72 @@
+-- `powers::fill_by_rule` meets its contract. The invariant: as many of the powers stand in their places as were worked. Assumes nothing.
+use mathlib.Core.Path.{_≡_, refl, sym, _∙_, ap}
+use Prim.Native.Nat.{ℕ, _+_, _-_, _≤_, _<_}
+use native.Mathlib.Omega.{arith}
+use lib.IntN.{ℤ}
+use lib.ListN.{length}
+use mir.Syntax.{w32}
+use mir.Val.{toZ, ofZ}
+use mir.ValLaws.{toZ-ofZ}
+use borrow.Author.Needs.{needs}
+use Rattle.powers.specs.Powers.{exponentAt, WrittenBy, ruled}
+use Rattle.powers.proofs.Exponents.{small}
+use Rattle.powers.proofs.Doubling.{written-none, written-next}
+use Rattle.powers.proofs.fill_by_rule.Statement.{statement}
+use Rattle.powers.proofs.fill_by_rule.Tie as tie
+
+abbrev Inv-loop : tie.InvT-loop
+Inv-loop a lo hi w₀ k₀ w k = (lo ≤ k) × (k ≤ hi) × (length w₀ ≡ 129 → WrittenBy (ruled a) w₀ w lo k)
+
+abbrev μ-loop : tie.MeasureT-loop
+μ-loop a lo hi w₀ k₀ w k = hi - k
+
+loop-holds : tie.Need-loop-holds Inv-loop μ-loop
+loop-holds c = (omega arith, omega arith, λ e. written-none (ruled (c .args .a)) (c .args .w .now) (c .args .lo) e)
+
+exponent-at-requires : tie.Need-exponent-at-requires Inv-loop μ-loop
+exponent-at-requires c κs = omega arith
+
+mul-w : tie.Need-mul-w Inv-loop μ-loop
+mul-w c = omega arith
+
+element-write-w : tie.Need-element-write-w Inv-loop μ-loop
+element-write-w c = omega arith
+
+add-k : tie.Need-add-k Inv-loop μ-loop
+add-k c = omega arith
+
+loop-less : tie.Need-loop-less Inv-loop μ-loop
+loop-less c = omega arith
+
+loop-again : tie.Need-loop-again Inv-loop μ-loop
+loop-again c =
+    let l = c .before .before .before in
+    let a = l .before .args in
+    let k = l .loop .k in (
+      omega arith,
+      omega arith,
+      λ e. written-next (ruled (a .a)) (a .w .now) (l .loop .w) (a .lo) k (c .raw-power .result) (omega arith) (omega arith)
+          (c .raw-power .ensures ∙ ap (ruled (a .a)) (ap (λ (n : ℤ). toZ w32 (ofZ w32 n)) (c .before .exponent-at .ensures) ∙ toZ-ofZ w32 (exponentAt k) (small k (omega arith)))) (l .loop .inv .2 e),
+    )
+
+returns : tie.Need-returns Inv-loop μ-loop
+returns c =
+    let l = c .before in
+    let done : l .loop .k ≡ l .before .args .hi = omega arith in
+    rw done at (l .loop .inv .2)
+
+pub fill-by-rule-spec : {M : Type 1} → statement M
+fill-by-rule-spec =
+    tie.close
+    (tie.spec
+    Inv-loop
+    μ-loop
+    loop-holds
+    exponent-at-requires
+    (λ c κs. search needs)
+    mul-w
+    element-write-w
+    add-k
+    loop-less
+    loop-again
+    returns)
