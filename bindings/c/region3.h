@@ -122,13 +122,13 @@ enum {
     R3_OALFAP = 35  /* relative pressure coefficient, 1/K; Rust. The quantity of R3_OPC by another formula, up to 9.1e-16 of it apart */
 };
 
-/* The record of a state; out has R3_FIELDS places. In r3_hs the record's p is the backward equation's; in the others, r3_pt too, it is worked from
+/* The record of a state. In r3_hs the record's p is the backward equation's; in the others, r3_pt too, it is worked from
  * the found state, so it need not be the caller's. */
-r3_byte r3_td(double t, double d, double *out);
-r3_byte r3_pt(double p, double t, double *out);
-r3_byte r3_ph(double p, double h, double *out);
-r3_byte r3_ps(double p, double s, double *out);
-r3_byte r3_hs(double h, double s, double *out);
+r3_byte r3_td(double t, double d, double out[R3_FIELDS]);
+r3_byte r3_pt(double p, double t, double out[R3_FIELDS]);
+r3_byte r3_ph(double p, double h, double out[R3_FIELDS]);
+r3_byte r3_ps(double p, double s, double out[R3_FIELDS]);
+r3_byte r3_hs(double h, double s, double out[R3_FIELDS]);
 
 /* The record of a state that is searched for: the T at a p and a v, the d at a T and an h, the d at a T and an s. The Rust's secant search proposes it;
  * then a test that does not trust the search works the p, h or s there and accepts it within 1e-6 (MPa, kJ/kg, kJ/(kg K)) of the asked one, or
@@ -137,9 +137,9 @@ r3_byte r3_hs(double h, double s, double *out);
  * state lies inside the border with region 2. A search that finds makes up to some 14 trials; one that does not can make 20,000, some
  * milliseconds. At p = 100 and at p = 16.529 about half of the states that exist are R3_STATE, their p coming out a little outside; r3_ts refuses every
  * T from 863.149999999954 up with R3_STEP. */
-r3_byte r3_pv(double p, double v, double *out, unsigned *trials);
-r3_byte r3_th(double t, double h, double *out, unsigned *trials);
-r3_byte r3_ts(double t, double s, double *out, unsigned *trials);
+r3_byte r3_pv(double p, double v, double out[R3_FIELDS], unsigned *trials);
+r3_byte r3_th(double t, double h, double out[R3_FIELDS], unsigned *trials);
+r3_byte r3_ts(double t, double s, double out[R3_FIELDS], unsigned *trials);
 
 /* The T or d that the test accepted, alone. The record there can still be refused: its p has a range of its own. */
 r3_byte r3_pv2t(double p, double v, double *t, unsigned *trials);
@@ -165,7 +165,7 @@ r3_byte r3_columns(
 /* An exchange record of `length` bytes: fields of a tag, a length in two bytes, the high byte first, and that many bytes. Tag 1 is p, 2 T, 3 d, 4 h,
  * 5 s, each 8 bytes, a double, the high byte first; two of them that are a pair, in rising order; tags from 128 up are skipped. Writes the pair that
  * was read, 0 where the record is refused (10 to 14), and the record of the pair's own call, with its number. */
-r3_byte r3_read(const r3_byte *bytes, r3_size length, r3_byte *pair, double *out);
+r3_byte r3_read(const r3_byte *bytes, r3_size length, r3_byte *pair, double out[R3_FIELDS]);
 
 /* Writes the exchange record of a pair and its two numbers, R3_RECORD bytes in two fields, at the front of the `length` bytes behind `out`, if the pair's
  * own call accepts it: else its number, then R3_NO_ROOM, and nothing is written. Bytes that the record does not need stay as they are. */

@@ -14,16 +14,6 @@ extern "C" {
     pub fn r3_property(number: i32, t: f64, d: f64, out: *mut f64) -> u8;
     pub fn r3_cp_w(t: f64, d: f64, cp: *mut f64, w: *mut f64, w_refusal: *mut u8) -> u8;
     pub fn r3_letter(p: f64, t: f64, letter: *mut u8) -> u8;
-    pub fn r3_p_saturation(t: f64, out: *mut f64) -> u8;
-    pub fn r3_t_saturation(p: f64, out: *mut f64) -> u8;
-    pub fn r3_p_border(t: f64, out: *mut f64) -> u8;
-    pub fn r3_t_border(p: f64, out: *mut f64) -> u8;
-    pub fn r3_power(a: f64, n: i32, out: *mut f64) -> u8;
-    pub fn r3_root(x: f64, out: *mut f64) -> u8;
-    pub fn r3_logarithm(x: f64, out: *mut f64) -> u8;
-    pub fn r3_exponential(x: f64, out: *mut f64) -> u8;
-    pub fn r3_read(bytes: *const u8, length: usize, pair: *mut u8, out: *mut [f64; 10]) -> u8;
-    pub fn r3_write(pair: u8, a: f64, b: f64, out: *mut u8, length: usize) -> u8;
     pub fn r3_columns(
         p: *const f64,
         p_rows: usize,
@@ -36,4 +26,14 @@ extern "C" {
         refusal: *mut u8,
         refusal_rows: usize,
     ) -> u8;
+    pub fn r3_read(bytes: *const u8, length: usize, pair: *mut u8, out: *mut [f64; 10]) -> u8;
+    pub fn r3_write(pair: u8, a: f64, b: f64, out: *mut u8, length: usize) -> u8;
+    pub fn r3_p_saturation(t: f64, out: *mut f64) -> u8;
+    pub fn r3_t_saturation(p: f64, out: *mut f64) -> u8;
+    pub fn r3_p_border(t: f64, out: *mut f64) -> u8;
+    pub fn r3_t_border(p: f64, out: *mut f64) -> u8;
+    pub fn r3_power(a: f64, n: i32, out: *mut f64) -> u8;
+    pub fn r3_root(x: f64, out: *mut f64) -> u8;
+    pub fn r3_logarithm(x: f64, out: *mut f64) -> u8;
+    pub fn r3_exponential(x: f64, out: *mut f64) -> u8;
 }

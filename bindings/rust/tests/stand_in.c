@@ -2,20 +2,22 @@
  * bindings/test makes an archive of it and runs tests/stand_in.rs over that. */
 #include "../../c/region3.h"
 
-#define RECORD(name) r3_byte name(double a, double b, double *out) { for (int i = 0; i < R3_FIELDS; i++) out[i] = a + b; return 200; }
+#define RECORD(name) r3_byte name(double a, double b, double out[R3_FIELDS]) { for (int i = 0; i < R3_FIELDS; i++) out[i] = a + b; return 200; }
 RECORD(r3_td)
 RECORD(r3_pt)
 RECORD(r3_ph)
 RECORD(r3_ps)
 RECORD(r3_hs)
 
-#define SEARCHED(name, fields) r3_byte name(double a, double b, double *out, unsigned *trials) { for (int i = 0; i < fields; i++) out[i] = a + b; *trials = 5; return 200; }
-SEARCHED(r3_pv, R3_FIELDS)
-SEARCHED(r3_th, R3_FIELDS)
-SEARCHED(r3_ts, R3_FIELDS)
-SEARCHED(r3_pv2t, 1)
-SEARCHED(r3_th2d, 1)
-SEARCHED(r3_ts2d, 1)
+#define SEARCHED_RECORD(name) r3_byte name(double a, double b, double out[R3_FIELDS], unsigned *trials) { for (int i = 0; i < R3_FIELDS; i++) out[i] = a + b; *trials = 5; return 200; }
+SEARCHED_RECORD(r3_pv)
+SEARCHED_RECORD(r3_th)
+SEARCHED_RECORD(r3_ts)
+
+#define SEARCHED(name) r3_byte name(double a, double b, double *out, unsigned *trials) { *out = a + b; *trials = 5; return 200; }
+SEARCHED(r3_pv2t)
+SEARCHED(r3_th2d)
+SEARCHED(r3_ts2d)
 
 #define NUMBER(name) r3_byte name(double x, double *out) { *out = x; return 200; }
 NUMBER(r3_p_saturation)
@@ -37,7 +39,7 @@ r3_byte r3_columns(
     return p && t && letter && density && refusal && p_rows == t_rows && letter_rows == density_rows && refusal_rows == p_rows ? 200 : 201;
 }
 
-r3_byte r3_read(const r3_byte *bytes, r3_size length, r3_byte *pair, double *out) {
+r3_byte r3_read(const r3_byte *bytes, r3_size length, r3_byte *pair, double out[R3_FIELDS]) {
     *pair = bytes && length ? bytes[0] : 0;
     out[0] = 7;
     return 200;

@@ -8,23 +8,23 @@ use Rattle.rules.specs.Power.{powerRule}
 use Rattle.rules.specs.Root.{rootRule}
 use Rattle.rules.specs.Log.{logarithmRule}
 use Rattle.rules.specs.Exp.{exponentialRule}
-use Rattle.r4.specs.Saturation.{p-saturationRule, T-saturationRule}
-use Rattle.border.specs.Border.{B23-p2TRule, B23-T2pRule}
+use Rattle.r4.specs.Saturation as r4
+use Rattle.border.specs.Border as border
 use Rattle.boundary.specs.declared.Boundary.{Boundary}
 use Rattle.boundary.specs.declared.Boundary.the-variants.{Ab, Cd, Ef, Gh, Ij, Jk, Mn, Op, Qu, Rx, Uv, Wx}
 use Rattle.boundary.specs.Boundary.{boundaryRule}
 use Rattle.boundary.specs.Choice.{letterRule}
 use Rattle.subregion.specs.Letter.{ofByte}
 use Rattle.volume.specs.declared.Phase.the-variants.{Liquid, Steam}
-use Rattle.volume.specs.Volumes.{pT2v-reg3Rule, pT2v-3subregRule, pT2v-sat-reg3Rule}
-use Rattle.backward.specs.Backward.{ph2T-reg3Rule, ph2v-reg3Rule, ps2T-reg3Rule, ps2v-reg3Rule, hs2p-reg3Rule}
+use Rattle.volume.specs.Volumes as volume
+use Rattle.backward.specs.Backward as backward
 use Rattle.by_number.specs.Property.{propertyRule}
 use Rattle.by_number.specs.Together.{cpAndWRule}
 use Rattle.td_record.specs.Steps.{recordRule}
 use Rattle.record.specs.Record.{report}
-use Rattle.region3.specs.Entries.{pTRule, phRule, psRule, hsRule}
+use Rattle.region3.specs.Entries as region3
 use Rattle.column_run.specs.Columns.{rowRule}
-use Rattle.search.specs.Calls.{pv2T-reg3Rule, Th2d-reg3Rule, Ts2d-reg3Rule, pvRule, ThRule, TsRule, reportSearched}
+use Rattle.search.specs.Calls as search
 use Rattle.reply.specs.declared.Reply.{Reply}
 use Rattle.reply.specs.Shape.{numberReply, letterReply, recordReply}
 use Rattle.entries.specs.declared.Entry.{Entry}
@@ -42,11 +42,11 @@ boundaryReply n p = named boundaries Ab (placeOf n) (λ b. numberReply (boundary
 unfoldable pub letterVolumeReply : ℤ → Float → Float → Reply
 letterVolumeReply n p t =
     cond (ltb (placeOf n) 97) unknown
-    (cond (ltb (placeOf n) 123) (numberReply (pT2v-3subregRule p t (ofByte (placeOf n)))) unknown)
+    (cond (ltb (placeOf n) 123) (numberReply (volume.pT2v-3subregRule p t (ofByte (placeOf n)))) unknown)
 
 -- a side of the saturation line by its number
 unfoldable pub phaseVolumeReply : ℤ → Float → Float → Reply
-phaseVolumeReply n p t = named (Liquid ∷ Steam ∷ []) Liquid (placeOf n) (λ x. numberReply (pT2v-sat-reg3Rule p t x))
+phaseVolumeReply n p t = named (Liquid ∷ Steam ∷ []) Liquid (placeOf n) (λ x. numberReply (volume.pT2v-sat-reg3Rule p t x))
 
 -- entry, whole number, first and second argument
 unfoldable pub replyRule : Entry → ℤ → Float → Float → Reply
@@ -55,31 +55,31 @@ replyRule entry.Power n a b = numberReply (powerRule a n)
 replyRule entry.Root n a b = numberReply (rootRule a)
 replyRule entry.Logarithm n a b = numberReply (logarithmRule a)
 replyRule entry.Exponential n a b = numberReply (exponentialRule a)
-replyRule entry.PSaturation n a b = numberReply (p-saturationRule a)
-replyRule entry.TSaturation n a b = numberReply (T-saturationRule a)
+replyRule entry.PSaturation n a b = numberReply (r4.p-saturationRule a)
+replyRule entry.TSaturation n a b = numberReply (r4.T-saturationRule a)
 replyRule entry.Boundary n a b = boundaryReply n a
 replyRule entry.Letter n a b = letterReply (letterRule a b)
 replyRule entry.LetterVolume n a b = letterVolumeReply n a b
-replyRule entry.Volume n a b = numberReply (pT2v-reg3Rule a b)
+replyRule entry.Volume n a b = numberReply (volume.pT2v-reg3Rule a b)
 replyRule entry.PhaseVolume n a b = phaseVolumeReply n a b
-replyRule entry.PhT n a b = numberReply (ph2T-reg3Rule a b)
-replyRule entry.PhV n a b = numberReply (ph2v-reg3Rule a b)
-replyRule entry.PsT n a b = numberReply (ps2T-reg3Rule a b)
-replyRule entry.PsV n a b = numberReply (ps2v-reg3Rule a b)
-replyRule entry.HsP n a b = numberReply (hs2p-reg3Rule a b)
+replyRule entry.PhT n a b = numberReply (backward.ph2T-reg3Rule a b)
+replyRule entry.PhV n a b = numberReply (backward.ph2v-reg3Rule a b)
+replyRule entry.PsT n a b = numberReply (backward.ps2T-reg3Rule a b)
+replyRule entry.PsV n a b = numberReply (backward.ps2v-reg3Rule a b)
+replyRule entry.HsP n a b = numberReply (backward.hs2p-reg3Rule a b)
 replyRule entry.TdRecord n a b = recordReply (report (recordRule a b))
-replyRule entry.PtRecord n a b = recordReply (report (pTRule a b))
-replyRule entry.PhRecord n a b = recordReply (report (phRule a b))
-replyRule entry.PsRecord n a b = recordReply (report (psRule a b))
-replyRule entry.HsRecord n a b = recordReply (report (hsRule a b))
+replyRule entry.PtRecord n a b = recordReply (report (region3.pTRule a b))
+replyRule entry.PhRecord n a b = recordReply (report (region3.phRule a b))
+replyRule entry.PsRecord n a b = recordReply (report (region3.psRule a b))
+replyRule entry.HsRecord n a b = recordReply (report (region3.hsRule a b))
 replyRule entry.Property n a b = numberReply (propertyRule n a b)
 replyRule entry.ColumnRow n a b = rowReply (rowRule a b)
-replyRule entry.BorderT n a b = numberReply (B23-p2TRule a)
-replyRule entry.BorderP n a b = numberReply (B23-T2pRule a)
+replyRule entry.BorderT n a b = numberReply (border.B23-p2TRule a)
+replyRule entry.BorderP n a b = numberReply (border.B23-T2pRule a)
 replyRule entry.CpW n a b = cpWReply (cpAndWRule a b)
-replyRule entry.PvRecord n a b = searchedReply (reportSearched (pvRule a b))
-replyRule entry.ThRecord n a b = searchedReply (reportSearched (ThRule a b))
-replyRule entry.TsRecord n a b = searchedReply (reportSearched (TsRule a b))
-replyRule entry.PvT n a b = foundReply (pv2T-reg3Rule a b)
-replyRule entry.ThD n a b = foundReply (Th2d-reg3Rule a b)
-replyRule entry.TsD n a b = foundReply (Ts2d-reg3Rule a b)
+replyRule entry.PvRecord n a b = searchedReply (search.reportSearched (search.pvRule a b))
+replyRule entry.ThRecord n a b = searchedReply (search.reportSearched (search.ThRule a b))
+replyRule entry.TsRecord n a b = searchedReply (search.reportSearched (search.TsRule a b))
+replyRule entry.PvT n a b = foundReply (search.pv2T-reg3Rule a b)
+replyRule entry.ThD n a b = foundReply (search.Th2d-reg3Rule a b)
+replyRule entry.TsD n a b = foundReply (search.Ts2d-reg3Rule a b)

@@ -4,12 +4,6 @@
 // together, the letter, the five records, what a search finds and the records there, the columns, the exchange record.
 mod exported;
 
-use border::B23_T2p;
-use border::B23_p2T;
-use boundary::sub_region3_pT;
-use by_number::Td_thermal_reg3;
-use by_number::Td2cp_w_reg3;
-use column_run::columns;
 use common::KJPerKg;
 use common::KJPerKgK;
 use common::Kelvin;
@@ -17,8 +11,6 @@ use common::KgPerM3;
 use common::M3PerKg;
 use common::MPa;
 use common::verdict_byte;
-use exchange_entry::answer;
-use exchange_writer::write_by;
 use exported::exported;
 use exported::exported_exchange;
 use exported::exported_found;
@@ -26,23 +18,6 @@ use exported::exported_letter;
 use exported::exported_record;
 use exported::exported_searched;
 use exported::lent_record;
-use r4::T_saturation;
-use r4::p_saturation;
-use region3::hs_reg3;
-use region3::pT_reg3;
-use region3::ph_reg3;
-use region3::ps_reg3;
-use rules::exponential;
-use rules::logarithm;
-use rules::power;
-use rules::root;
-use search::Th_reg3;
-use search::Th2d_reg3;
-use search::Ts_reg3;
-use search::Ts2d_reg3;
-use search::pv_reg3;
-use search::pv2T_reg3;
-use td_record::Td_reg3;
 ghost use mathlib.Core.Path.{_≡_};
 ghost use Rattle.rules.specs.Power.{powerRule};
 ghost use Rattle.rules.specs.Root.{rootRule};
@@ -65,63 +40,66 @@ ghost use Rattle.region3_c.specs.Exported.{Exported, ExportedLetter, Exp
 pub extern "C" fn r3_power(a: f64, n: i32, out: &mut f64) -> u8
     ensures { λ r. ⌜ Exported (powerRule a n) r (now (out .exit)) ⌝ }
 {
-    exported(power(a, n), out)
+    exported(rules::power(a, n), out)
 }
 
 #[no_mangle]
 pub extern "C" fn r3_root(x: f64, out: &mut f64) -> u8
     ensures { λ r. ⌜ Exported (rootRule x) r (now (out .exit)) ⌝ }
 {
-    exported(root(x), out)
+    exported(rules::root(x), out)
 }
 
 #[no_mangle]
 pub extern "C" fn r3_logarithm(x: f64, out: &mut f64) -> u8
     ensures { λ r. ⌜ Exported (logarithmRule x) r (now (out .exit)) ⌝ }
 {
-    exported(logarithm(x), out)
+    exported(rules::logarithm(x), out)
 }
 
 #[no_mangle]
 pub extern "C" fn r3_exponential(x: f64, out: &mut f64) -> u8
     ensures { λ r. ⌜ Exported (exponentialRule x) r (now (out .exit)) ⌝ }
 {
-    exported(exponential(x), out)
+    exported(rules::exponential(x), out)
 }
 
 #[no_mangle]
 pub extern "C" fn r3_p_saturation(t: f64, out: &mut f64) -> u8
     ensures { λ r. ⌜ Exported (p-saturationRule t) r (now (out .exit)) ⌝ }
 {
-    exported(p_saturation(Kelvin(t)), out)
+    exported(r4::p_saturation(Kelvin(t)), out)
 }
 
 #[no_mangle]
 pub extern "C" fn r3_t_saturation(p: f64, out: &mut f64) -> u8
     ensures { λ r. ⌜ Exported (T-saturationRule p) r (now (out .exit)) ⌝ }
 {
-    exported(T_saturation(MPa(p)), out)
+    exported(r4::T_saturation(MPa(p)), out)
 }
 
 #[no_mangle]
 pub extern "C" fn r3_p_border(t: f64, out: &mut f64) -> u8
     ensures { λ r. ⌜ Exported (B23-T2pRule t) r (now (out .exit)) ⌝ }
 {
-    exported(B23_T2p(Kelvin(t)), out)
+    exported(border::B23_T2p(Kelvin(t)), out)
 }
 
 #[no_mangle]
 pub extern "C" fn r3_t_border(p: f64, out: &mut f64) -> u8
     ensures { λ r. ⌜ Exported (B23-p2TRule p) r (now (out .exit)) ⌝ }
 {
-    exported(B23_p2T(MPa(p)), out)
+    exported(border::B23_p2T(MPa(p)), out)
 }
 
 #[no_mangle]
 pub extern "C" fn r3_property(number: i32, t: f64, d: f64, out: &mut f64) -> u8
     ensures { λ r. ⌜ Exported (propertyRule number t d) r (now (out .exit)) ⌝ }
 {
-    exported(Td_thermal_reg3(Kelvin(t), KgPerM3(d), number), out)
+    exported(
+        by_number::Td_thermal_reg3(Kelvin(t), KgPerM3(d), number),
+        out,
+    )
 }
 
 // cp and w of one evaluation: returns cp's refusal, and writes w's.
@@ -129,7 +107,7 @@ pub extern "C" fn r3_property(number: i32, t: f64, d: f64, out: &mut f64) -> u8
 pub extern "C" fn r3_cp_w(t: f64, d: f64, cp: &mut f64, w: &mut f64, w_refusal: &mut u8) -> u8
     ensures { λ r. ⌜ Exported (cpAndWRule t d .cp) r (now (cp .exit)) × Exported (cpAndWRule t d .w) (now («w_refusal» .exit)) (now (w .exit)) ⌝ }
 {
-    let both = Td2cp_w_reg3(Kelvin(t), KgPerM3(d));
+    let both = by_number::Td2cp_w_reg3(Kelvin(t), KgPerM3(d));
     let first = both.cp;
     let second = both.w;
     *w_refusal = exported(second, w);
@@ -140,42 +118,51 @@ pub extern "C" fn r3_cp_w(t: f64, d: f64, cp: &mut f64, w: &mut f64, w_refusal: 
 pub extern "C" fn r3_letter(p: f64, t: f64, letter: &mut u8) -> u8
     ensures { λ r. ⌜ ExportedLetter (letterRule p t) r (now (letter .exit)) ⌝ }
 {
-    exported_letter(sub_region3_pT(MPa(p), Kelvin(t)), letter)
+    exported_letter(boundary::sub_region3_pT(MPa(p), Kelvin(t)), letter)
 }
 
 #[no_mangle]
 pub extern "C" fn r3_td(t: f64, d: f64, out: &mut [f64; 10]) -> u8
     ensures { λ r. ⌜ ExportedRecord (report (recordRule t d)) r (now (out .exit)) ⌝ }
 {
-    exported_record(Td_reg3(lent_record(*out), Kelvin(t), KgPerM3(d)), out)
+    exported_record(
+        td_record::Td_reg3(lent_record(*out), Kelvin(t), KgPerM3(d)),
+        out,
+    )
 }
 
 #[no_mangle]
 pub extern "C" fn r3_pt(p: f64, t: f64, out: &mut [f64; 10]) -> u8
     ensures { λ r. ⌜ ExportedRecord (report (pTRule p t)) r (now (out .exit)) ⌝ }
 {
-    exported_record(pT_reg3(lent_record(*out), MPa(p), Kelvin(t)), out)
+    exported_record(region3::pT_reg3(lent_record(*out), MPa(p), Kelvin(t)), out)
 }
 
 #[no_mangle]
 pub extern "C" fn r3_ph(p: f64, h: f64, out: &mut [f64; 10]) -> u8
     ensures { λ r. ⌜ ExportedRecord (report (phRule p h)) r (now (out .exit)) ⌝ }
 {
-    exported_record(ph_reg3(lent_record(*out), MPa(p), KJPerKg(h)), out)
+    exported_record(region3::ph_reg3(lent_record(*out), MPa(p), KJPerKg(h)), out)
 }
 
 #[no_mangle]
 pub extern "C" fn r3_ps(p: f64, s: f64, out: &mut [f64; 10]) -> u8
     ensures { λ r. ⌜ ExportedRecord (report (psRule p s)) r (now (out .exit)) ⌝ }
 {
-    exported_record(ps_reg3(lent_record(*out), MPa(p), KJPerKgK(s)), out)
+    exported_record(
+        region3::ps_reg3(lent_record(*out), MPa(p), KJPerKgK(s)),
+        out,
+    )
 }
 
 #[no_mangle]
 pub extern "C" fn r3_hs(h: f64, s: f64, out: &mut [f64; 10]) -> u8
     ensures { λ r. ⌜ ExportedRecord (report (hsRule h s)) r (now (out .exit)) ⌝ }
 {
-    exported_record(hs_reg3(lent_record(*out), KJPerKg(h), KJPerKgK(s)), out)
+    exported_record(
+        region3::hs_reg3(lent_record(*out), KJPerKg(h), KJPerKgK(s)),
+        out,
+    )
 }
 
 // What a search finds, and its trials: T at p and v, d at T and h, d at T and s; then the records there.
@@ -183,28 +170,32 @@ pub extern "C" fn r3_hs(h: f64, s: f64, out: &mut [f64; 10]) -> u8
 pub extern "C" fn r3_pv2t(p: f64, v: f64, out: &mut f64, trials: &mut u32) -> u8
     ensures { λ r. ⌜ ExportedFound (pv2T-reg3Rule p v) r (now (out .exit)) (now (trials .exit)) ⌝ }
 {
-    exported_found(pv2T_reg3(MPa(p), M3PerKg(v)), out, trials)
+    exported_found(search::pv2T_reg3(MPa(p), M3PerKg(v)), out, trials)
 }
 
 #[no_mangle]
 pub extern "C" fn r3_th2d(t: f64, h: f64, out: &mut f64, trials: &mut u32) -> u8
     ensures { λ r. ⌜ ExportedFound (Th2d-reg3Rule t h) r (now (out .exit)) (now (trials .exit)) ⌝ }
 {
-    exported_found(Th2d_reg3(Kelvin(t), KJPerKg(h)), out, trials)
+    exported_found(search::Th2d_reg3(Kelvin(t), KJPerKg(h)), out, trials)
 }
 
 #[no_mangle]
 pub extern "C" fn r3_ts2d(t: f64, s: f64, out: &mut f64, trials: &mut u32) -> u8
     ensures { λ r. ⌜ ExportedFound (Ts2d-reg3Rule t s) r (now (out .exit)) (now (trials .exit)) ⌝ }
 {
-    exported_found(Ts2d_reg3(Kelvin(t), KJPerKgK(s)), out, trials)
+    exported_found(search::Ts2d_reg3(Kelvin(t), KJPerKgK(s)), out, trials)
 }
 
 #[no_mangle]
 pub extern "C" fn r3_pv(p: f64, v: f64, out: &mut [f64; 10], trials: &mut u32) -> u8
     ensures { λ r. ⌜ ExportedSearched (reportSearched (pvRule p v)) r (now (out .exit)) (now (trials .exit)) ⌝ }
 {
-    exported_searched(pv_reg3(lent_record(*out), MPa(p), M3PerKg(v)), out, trials)
+    exported_searched(
+        search::pv_reg3(lent_record(*out), MPa(p), M3PerKg(v)),
+        out,
+        trials,
+    )
 }
 
 #[no_mangle]
@@ -212,7 +203,7 @@ pub extern "C" fn r3_th(t: f64, h: f64, out: &mut [f64; 10], trials: &mut u32) -
     ensures { λ r. ⌜ ExportedSearched (reportSearched (ThRule t h)) r (now (out .exit)) (now (trials .exit)) ⌝ }
 {
     exported_searched(
-        Th_reg3(lent_record(*out), Kelvin(t), KJPerKg(h)),
+        search::Th_reg3(lent_record(*out), Kelvin(t), KJPerKg(h)),
         out,
         trials,
     )
@@ -223,7 +214,7 @@ pub extern "C" fn r3_ts(t: f64, s: f64, out: &mut [f64; 10], trials: &mut u32) -
     ensures { λ r. ⌜ ExportedSearched (reportSearched (TsRule t s)) r (now (out .exit)) (now (trials .exit)) ⌝ }
 {
     exported_searched(
-        Ts_reg3(lent_record(*out), Kelvin(t), KJPerKgK(s)),
+        search::Ts_reg3(lent_record(*out), Kelvin(t), KJPerKgK(s)),
         out,
         trials,
     )
@@ -240,7 +231,7 @@ pub extern "C" fn r3_columns(
 ) -> u8
     ensures { λ r. ⌜ ExportedColumns (columnsRule (now (p .entry)) (now (t .entry)) (lent (now (letter .entry)) (now (density .entry)) (now (refusal .entry)))) r (now (letter .exit)) (now (density .exit)) (now (refusal .exit)) ⌝ }
 {
-    let v = columns(p, t, letter, density, refusal);
+    let v = column_run::columns(p, t, letter, density, refusal);
     verdict_byte(v)
 }
 
@@ -249,7 +240,7 @@ pub extern "C" fn r3_columns(
 pub extern "C" fn r3_read(bytes: &[u8], pair: &mut u8, out: &mut [f64; 10]) -> u8
     ensures { λ r. ⌜ ExportedRead (now (bytes .entry)) r (now (pair .exit)) (now (out .exit)) ⌝ }
 {
-    exported_exchange(answer(lent_record(*out), bytes), pair, out)
+    exported_exchange(exchange_entry::answer(lent_record(*out), bytes), pair, out)
 }
 
 // The record of a point, by the byte of its pair: 0 and 22 bytes at the front, or a number and every byte as found.
@@ -257,5 +248,5 @@ pub extern "C" fn r3_read(bytes: &[u8], pair: &mut u8, out: &mut [f64; 10]) -> u
 pub extern "C" fn r3_write(pair: u8, a: f64, b: f64, out: &mut [u8]) -> u8
     ensures { λ r. ⌜ (r, now (out .exit)) ≡ writtenBy pair a b (now (out .entry)) ⌝ }
 {
-    write_by(pair, a, b, out)
+    exchange_writer::write_by(pair, a, b, out)
 }
