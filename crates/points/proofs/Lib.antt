@@ -1,5 +1,2 @@
 pub mod Volumes
 pub mod Backward
-pub mod Columns
-pub mod Records
-pub mod Exchange

@@ -1,1 +1,2 @@
-// Points of the definitions, worked out by antt and held to the published check values and to the answers of the Rust: proofs in proofs/, no code.
+// Points of the volumes and the backward equations, worked out by antt from the definitions and held to the published check values: proofs in
+// proofs/, no code.

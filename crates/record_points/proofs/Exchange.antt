@@ -40,7 +40,7 @@ use Rattle.exchange_record.specs.declared.Asked.{Asked}
 use Rattle.exchange_record.specs.Reading.{Means}
 use Rattle.exchange_record.proofs.Points as read
 use Rattle.exchange_entry.specs.Call.{exchangeOf, Exchanged}
-use Rattle.points.proofs.Columns.{same}
+use Rattle.record_points.proofs.Columns.{same}
 
 -- what some bytes are answered with: the pair, the number, the density
 pub record Answered (s : List ℕ) (pair : Outcome Pair) (number : ℕ) (d : Float) : Type 0 where

@@ -36,7 +36,7 @@ use Rattle.record.specs.Record.{fieldsOf, byteOf}
 use Rattle.record.specs.declared.Record.{Record}
 use Rattle.td_record.specs.Steps.{recordRule, recordSteps, recordAfter}
 use Rattle.region3.specs.Entries.{pTRule, phRule, psRule, hsRule}
-use Rattle.points.proofs.Columns.{same, every-number}
+use Rattle.record_points.proofs.Columns.{same, every-number}
 
 abbrev isRecord : List Float → Outcome Record → Bool
 isRecord xs (value r) = every-number (fieldsOf r) xs
