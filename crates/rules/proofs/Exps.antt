@@ -2,7 +2,6 @@
 -- Assumes nothing.
 use mathlib.Core.Path.{_≡_, refl, sym, ap, _∙_, subst}
 use mathlib.Core.Logic.{_⊎_, inl, inr}
-use mathlib.Core.List.{List, [], _∷_}
 use Prim.Native.Nat.{ℕ, zero, suc, _+_, _-_, _*_, _/_, _%_, _^_, _≤_, _<_, compare, Ordering, Ordering·lt, Ordering·eq, Ordering·gt}
 use native.Mathlib.Nat.{le-trans, le-of-eq, lt-of-lt-of-le, lt-of-le-of-lt, lt-of-not-le, not-le-of-lt, zero-lt-suc, zero-mul, one-mul, mul-one, mul-pos, mul-comm, mul-assoc, mul-right-comm, mul-le-mul-right, mul-lt-mul-of-pos-right, le-of-mul-le-mul-right, lt-of-mul-lt-mul-right, eq-of-mul-eq-mul-right, div-add-mod', div-mul-le-self, div-lt-iff-lt-mul, mod-eq-of-lt}
 use native.Mathlib.Omega.{arith}
@@ -10,13 +9,13 @@ use mathlib.Core.Bool.{Bool, true, false, not, _&&_, cond}
 use lib.Dec.{T, leb, ltb, leb→le, le→leb, ltb→lt, lt→ltb, lit≤, lit<}
 use lib.IntN.{ℤ, pos, negsuc, negℤ}
 use lib.Pow.{pow-pos, pow-add, pow-mono, pow-lt}
-use lib.Ieee.{Float, nan, inf, fin, binary64, up, down, size, nearest, fits, isNan, toBits, ofBits, round, neg, add, sub, mul, div, ofInt, le, lt}
+use lib.Ieee.{Float, nan, inf, fin, binary64, up, down, size, nearest, fits, isNan, toBits, ofBits, round, neg, mul, div, ofInt, le, lt}
 use lib.Ieee.Bits.{ofBits-toBits, ofBits-fits}
 use lib.Ieee.Fits.{up-pos, down-pos}
 use lib.Ieee.Exact.{HasValue}
 use lib.Ieee.Nearest.{closest, closest-same, closest-mono}
 use lib.Ieee.Order.{round-mono}
-use Rattle.common.specs.Outcome.{refused, finite, check}
+use Rattle.common.specs.Outcome.{finite, check}
 use Rattle.rules.specs.Log.{float, L}
 use Rattle.rules.specs.Exp.{wholeSize, withSign, nearestWhole, twoTo, from14, expSteps}
 use Rattle.rules.specs.RawExp.{rawExp, atMost1010}

@@ -2,18 +2,18 @@
 -- powers of two are normal f64s. For they are f64s, and rounding keeps the order. In order: a rounded fraction, the product, the quotient, and what the
 -- test of a base says. Assumes nothing.
 use mathlib.Core.Path.{_≡_, refl, sym, ap, _∙_, subst}
-use mathlib.Core.Bool.{Bool, true, false, not, _&&_, cond}
+use mathlib.Core.Bool.{Bool, true, false, _&&_, cond}
 use Prim.Native.Nat.{ℕ, zero, suc, _+_, _-_, _*_, _/_, _%_, _^_, _≤_, _<_, compare}
-use native.Mathlib.Nat.{le-trans, le-of-eq, le-of-lt, mul-one, one-mul, mul-comm, mul-pos, mul-le-mul, mul-mul-mul-comm, lt-irrefl, zero-mul}
+use native.Mathlib.Nat.{le-trans, le-of-eq, le-of-lt, mul-one, one-mul, mul-pos, mul-le-mul, mul-mul-mul-comm}
 use native.Mathlib.Omega.{arith}
-use lib.Dec.{T, ltb, eqb, leb}
+use lib.Dec.{T, ltb, leb}
 use lib.IntN.{ℤ, pos, negsuc}
-use lib.Pow.{pow-add, pow-pos, pow-lt, pow-mono}
+use lib.Pow.{pow-add, pow-pos, pow-lt}
 use lib.Ieee.{Float, nan, inf, fin, Format, binary64, prec, emax, low, up, down, size, nearest, odd, units, round, mul, div, le, unlike}
-use lib.Ieee.Fits.{round-is, up-pos, down-pos, and-l, and-r}
+use lib.Ieee.Fits.{down-pos, and-l, and-r}
 use lib.Ieee.Exact.{HasValue, round-exact}
 use lib.Ieee.Order.{round-mono}
-use lib.Ieee.Positive.{num, den, den-pos, positive, own-value, positive-of-value, values-of-le, between, le-trans-positive}
+use lib.Ieee.Positive.{num, den, positive, own-value, positive-of-value, values-of-le, between, le-trans-positive}
 use borrow.Author.Tests.{ne-eqb, leb-true, leb-false}
 use Rattle.common.specs.Outcome.{finite}
 use Rattle.sizes.specs.Usual.{usualBase}
