@@ -3,11 +3,11 @@
 use mathlib.Core.Path.{_≡_, sym, ap, _∙_, subst}
 use mathlib.Core.Bool.{Bool, true, false, cond}
 use lib.Dec.{T}
-use lib.Ieee.{Float, binary64, round, neg, sum, add, sub, mul, fits, le, lt, eq}
+use lib.Ieee.{Float, binary64, round, neg, sum, add, sub, mul, le, lt, eq}
 use lib.Ieee.Fits.{sub-fits, div-fits}
 use lib.Ieee.Positive.{positive, between, le-trans-positive}
 use Rattle.common.specs.Outcome.{Outcome, value, refused, orNan}
-use Rattle.common.specs.Decimal.{whole, decimal, scaled, plus}
+use Rattle.common.specs.Decimal.{decimal, scaled, plus}
 use Rattle.common.specs.Constant.{T-FROM, T-TO}
 use Rattle.common.specs.Range.{pTBox}
 use Rattle.rules.specs.Root.{rootRule}

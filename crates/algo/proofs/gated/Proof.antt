@@ -29,13 +29,4 @@ returns-4 c =
     rw (check-lost (a .vi) (cc))
 
 pub gated-spec : {M : Type 1} → statement M
-gated-spec =
-    tie.close
-    (tie.spec
-    (λ c κs. search needs)
-    (λ c κs. search needs)
-    (λ c κs. search needs)
-    returns
-    returns-2
-    returns-3
-    returns-4)
+gated-spec = tie.close (tie.spec (λ c κs. search needs) (λ c κs. search needs) (λ c κs. search needs) returns returns-2 returns-3 returns-4)

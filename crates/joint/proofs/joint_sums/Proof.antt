@@ -53,9 +53,6 @@ shared-slice-read-factor c = within (c .before .before .before) .n
 add-k : tie.Need-add-k Inv-loop μ-loop
 add-k c = let w = within (c .before .before .before .before .before .before .before) in omega (arith, w .n)
 
-loop-less : tie.Need-loop-less Inv-loop μ-loop
-loop-less c = omega arith
-
 loop-again : tie.Need-loop-again Inv-loop μ-loop
 loop-again c =
     let f = c .before .before in
@@ -91,23 +88,6 @@ returns c =
 pub joint-sums-spec : {M : Type 1} → statement M
 joint-sums-spec =
     tie.close
-    (tie.spec
-    Inv-loop
-    μ-loop
-    (λ c κs. search needs)
-    (λ c κs. search needs)
-    loop-holds
-    mul-i
-    shared-slice-copy-out-i
-    mul-j
-    shared-slice-copy-out-j
-    mul-factor
-    shared-slice-read-factor
-    (λ c κs. search needs)
-    (λ c κs. search needs)
-    (λ c κs. search needs)
-    (λ c κs. search needs)
-    add-k
-    loop-less
-    loop-again
-    returns)
+    (tie.spec Inv-loop μ-loop (λ c κs. search needs) (λ c κs. search needs) loop-holds mul-i shared-slice-copy-out-i mul-j shared-slice-copy-out-j
+    mul-factor shared-slice-read-factor (λ c κs. search needs) (λ c κs. search needs) (λ c κs. search needs) (λ c κs. search needs) add-k
+    (λ c. omega arith) loop-again returns)

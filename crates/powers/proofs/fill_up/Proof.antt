@@ -1,6 +1,6 @@
 -- `powers::fill_up` meets its contract: each doubling fills as many places more as are wanted, from a squared once more. Assumes nothing.
 use mathlib.Core.Path.{_≡_, refl}
-use Prim.Native.Nat.{ℕ, suc, _+_, _-_, _<_, _≤_}
+use Prim.Native.Nat.{ℕ, suc, _+_, _-_, _<_, _≤_, min}
 use native.Mathlib.Omega.{arith}
 use lib.ListN.{length}
 use lib.Ieee.{ofBits}
@@ -16,7 +16,7 @@ record Made (h t r : ℕ) : Type 0 where
   whole : h + h ≤ t → 64 + h + r ≡ 64 + (h + h)
   part : h ≤ t → t < h + h → 64 + h + r ≡ 72 + (t - 7)
 
-made : (m t r : ℕ) → 7 ≤ m → r ≡ suc m - (suc m - (t - m)) → Made (suc m) t r
+made : (m t r : ℕ) → 7 ≤ m → r ≡ min (suc m) (t - m) → Made (suc m) t r
 made m t r s e = record { whole = λ l. omega arith; part = λ l n. omega arith }
 
 -- all of them, where the highest is 64
@@ -77,23 +77,6 @@ returns-5 c = λ e. written-same (c .before .before .before .before .before .bef
 pub fill-up-spec : {M : Type 1} → statement M
 fill-up-spec =
     tie.close
-    (tie.spec
-    (λ c. search needs)
-    (λ c κs. search needs)
-    (λ c κs. search needs)
-    (λ c κs. search needs)
-    (λ c. search needs)
-    (λ c κs. search needs)
-    (λ c κs. search needs)
-    (λ c. search needs)
-    (λ c κs. search needs)
-    (λ c κs. search needs)
-    (λ c. search needs)
-    (λ c κs. search needs)
-    double-requires-6
-    (λ c κs. search needs)
-    returns
-    returns-2
-    returns-3
-    returns-4
-    returns-5)
+    (tie.spec (λ c. search needs) (λ c κs. search needs) (λ c κs. search needs) (λ c κs. search needs) (λ c. search needs) (λ c κs. search needs)
+    (λ c κs. search needs) (λ c. search needs) (λ c κs. search needs) (λ c κs. search needs) (λ c. search needs) (λ c κs. search needs)
+    double-requires-6 (λ c κs. search needs) returns returns-2 returns-3 returns-4 returns-5)

@@ -41,19 +41,5 @@ returns-3 c =
 
 pub factor-spec : {M : Type 1} → statement M
 factor-spec =
-    tie.close
-    (tie.spec
-    cast-n
-    (λ c. search needs)
-    (λ c κs. search needs)
-    (λ c. search needs)
-    (λ c. search needs)
-    sub-power-in
-    (λ c κs. search needs)
-    (λ c. search needs)
-    (λ c κs. search needs)
-    sub-power-in-2
-    (λ c κs. search needs)
-    returns
-    returns-2
-    returns-3)
+    tie.close (tie.spec cast-n (λ c. search needs) (λ c κs. search needs) (λ c. search needs) (λ c. search needs) sub-power-in (λ c κs. search needs)
+    (λ c. search needs) (λ c κs. search needs) sub-power-in-2 (λ c κs. search needs) returns returns-2 returns-3)

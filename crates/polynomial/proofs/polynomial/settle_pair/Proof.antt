@@ -18,5 +18,4 @@ returns-3 : tie.Need-returns-3
 returns-3 c = rw (check-lost (c .before .before .args .p .first) (cc))
 
 pub settle-pair-spec : {M : Type 1} → statement M
-settle-pair-spec =
-    tie.close (tie.spec (λ c κs. search needs) (λ c κs. search needs) returns returns-2 returns-3)
+settle-pair-spec = tie.close (tie.spec (λ c κs. search needs) (λ c κs. search needs) returns returns-2 returns-3)

@@ -1,6 +1,5 @@
 -- `polynomial::table_sum` meets its contract.
 use mathlib.Core.Path.{sym, _∙_, ap}
-use mathlib.Core.List.{List}
 use denote.Ref.{now}
 use borrow.Author.Needs.{needs}
 use Rattle.common.specs.Outcome.{check}
