@@ -6,7 +6,7 @@ use Rattle.common.proofs.Same.{One, same-answer, same-verdict}
 use Rattle.record.specs.declared.Record.{Record}
 use Rattle.record.specs.declared.RecordAnswer.{RecordAnswer}
 use Rattle.record.specs.Record.{paperRecord}
-use Rattle.record.proofs as record
+use Rattle.record.proofs as its
 
 -- an answer is determined by its verdict's number and its record
 pub same-record : (o : Outcome Unit × Record) (x y : RecordAnswer) → paperRecord x ≡ o → paperRecord y ≡ o → x ≡ y
@@ -16,26 +16,26 @@ same-record o x y p q =
     ap (λ (v : Verdict). record { verdict = v; «record» = x .«record» }) v
     ∙ ap (λ (a : Outcome Unit × Record). record { verdict = y .verdict; «record» = a .1 }) e
 
-pub refuse-one : One 0 record.records.refuse.Kinds.ps record.records.refuse.Kinds.r record.records.refuse.Reads.Post
+pub refuse-one : One 0 its.records.refuse.Kinds.ps its.records.refuse.Kinds.r its.records.refuse.Reads.Post
 refuse-one κs a e x y p q = same-record _ x y p q
 
-pub blank-one : One 0 record.records.blank.Kinds.ps record.records.blank.Kinds.r record.records.blank.Reads.Post
+pub blank-one : One 0 its.records.blank.Kinds.ps its.records.blank.Kinds.r its.records.blank.Reads.Post
 blank-one κs a e x y p q = p ∙ sym q
 
-pub fields-one : One 0 record.records.fields.Kinds.ps record.records.fields.Kinds.r record.records.fields.Reads.Post
+pub fields-one : One 0 its.records.fields.Kinds.ps its.records.fields.Kinds.r its.records.fields.Reads.Post
 fields-one κs a e x y p q = p ∙ sym q
 
-pub origin-byte-one : One 0 record.records.origin_byte.Kinds.ps record.records.origin_byte.Kinds.r record.records.origin_byte.Reads.Post
+pub origin-byte-one : One 0 its.records.origin_byte.Kinds.ps its.records.origin_byte.Kinds.r its.records.origin_byte.Reads.Post
 origin-byte-one κs a e x y p q = p ∙ sym q
 
-pub settle-p-one : One 0 record.state.settle_p.Kinds.ps record.state.settle_p.Kinds.r record.state.settle_p.Reads.Post
+pub settle-p-one : One 0 its.state.settle_p.Kinds.ps its.state.settle_p.Kinds.r its.state.settle_p.Reads.Post
 settle-p-one κs a e x y p q = same-answer _ x y p q
 
-pub settle-t-one : One 0 record.state.settle_t.Kinds.ps record.state.settle_t.Kinds.r record.state.settle_t.Reads.Post
+pub settle-t-one : One 0 its.state.settle_t.Kinds.ps its.state.settle_t.Kinds.r its.state.settle_t.Reads.Post
 settle-t-one κs a e x y p q = same-answer _ x y p q
 
-pub density-one : One 0 record.state.density.Kinds.ps record.state.density.Kinds.r record.state.density.Reads.Post
+pub density-one : One 0 its.state.density.Kinds.ps its.state.density.Kinds.r its.state.density.Reads.Post
 density-one κs a e x y p q = same-answer _ x y p q
 
-pub settle-v-one : One 0 record.state.settle_v.Kinds.ps record.state.settle_v.Kinds.r record.state.settle_v.Reads.Post
+pub settle-v-one : One 0 its.state.settle_v.Kinds.ps its.state.settle_v.Kinds.r its.state.settle_v.Reads.Post
 settle-v-one κs a e x y p q = same-answer _ x y p q

@@ -65,21 +65,15 @@ same-bits a [] i j r x h b c = record { equal = refl; band = subst (λ (k : ℕ)
 same-bits a (true ∷ bs) i j r x h b c =
     let w = weight bs in
     let y = mul binary64 r x in
-    let x-band = c (one-more w) in
-    let y-band = mul-band i j r x (first i j w h) b x-band in
+    let x-band = c (omega arith) in
+    let y-band = mul-band i j r x (omega arith) b x-band in
     let s = same-bits a bs (i + j) (j + j) y (mul binary64 x x) (le-trans (le-of-eq (all i j w)) h) y-band (λ p. mul-band j j x x (pair i j w p h) x-band x-band) in
-    let k = looked-same (i + j) a y (first i j w h) y-band in
+    let k = looked-same (i + j) a y (omega arith) y-band in
     record {
       equal = ap (λ (z : Float). overBits (looked a) z (mul binary64 x x) bs) k ∙ s .equal;
       band = subst (λ (k : ℕ). Band k (overBits (looked a) (looked a y) (mul binary64 x x) bs)) (all i j w) (subst (λ (z : Float). Band (i + j + (j + j) * w) (overBits (looked a) z (mul binary64 x x) bs)) (sym k) (s .band));
     }
   where
-    one-more : (w : ℕ) → 0 < 1 + 2 * w
-    one-more w = omega arith
-
-    first : (i j w : ℕ) → i + j * (1 + 2 * w) ≤ 1022 → i + j ≤ 1022
-    first i j w h = omega arith
-
     all : (i j w : ℕ) → i + j + (j + j) * w ≡ i + j * (1 + 2 * w)
     all i j w = omega arith
 
@@ -88,12 +82,9 @@ same-bits a (true ∷ bs) i j r x h b c =
     pair i j (suc w) p h = omega arith
 same-bits a (false ∷ bs) i j r x h b c =
     let w = weight bs in
-    let s = same-bits a bs i (j + j) r (mul binary64 x x) (le-trans (le-of-eq (all i j w)) h) b (λ p. let x-band = c (still w p) in mul-band j j x x (pair i j w p h) x-band x-band) in
+    let s = same-bits a bs i (j + j) r (mul binary64 x x) (le-trans (le-of-eq (all i j w)) h) b (λ p. let x-band = c (omega arith) in mul-band j j x x (pair i j w p h) x-band x-band) in
     record { equal = s .equal; band = subst (λ (k : ℕ). Band k (overBits (looked a) r (mul binary64 x x) bs)) (all i j w) (s .band) }
   where
-    still : (w : ℕ) → 0 < w → 0 < 2 * w
-    still w p = omega arith
-
     all : (i j w : ℕ) → i + (j + j) * w ≡ i + j * (2 * w)
     all i j w = omega arith
 
@@ -161,16 +152,13 @@ power-zero a n z small =
     ∙ ap (rawBySign n) (zero-bits a one a (bits (natAbs n)) z ∙ by-bits 31 one a (natAbs n) (omega arith)))
 
 -- at a usual base, for any such n
-far-enough : (n : ℕ) → n ≤ 64 → 15 * n ≤ 1022
-far-enough n h = omega arith
-
 pub usual-finite : (a : Float) → usualBase a ≡ true → finite a ≡ true
 usual-finite a u = usual-band a u .kept
 
 pub power-usual : (a : Float) (n : ℤ) → usualBase a ≡ true → leb (natAbs n) 64 ≡ true → powerRule a n ≡ check (rawPower a n)
-power-usual a n u small = power-band 15 a n (usual-band a u) small (far-enough (natAbs n) (leb-true (natAbs n) 64 small))
+power-usual a n u small = power-band 15 a n (usual-band a u) small (omega (arith, leb-true (natAbs n) 64 small))
 
 -- and its raw form is the power with no look at it
 pub usual-raw : (a : Float) (n : ℤ) → usualBase a ≡ true → leb (natAbs n) 64 ≡ true → orNan (powerRule a n) ≡ rawPower a n
 usual-raw a n u small =
-    ap orNan (power-usual a n u small ∙ check-kept (rawPower a n) (same-power 15 a n (usual-band a u) small (far-enough (natAbs n) (leb-true (natAbs n) 64 small)) .whole))
+    ap orNan (power-usual a n u small ∙ check-kept (rawPower a n) (same-power 15 a n (usual-band a u) small (omega (arith, leb-true (natAbs n) 64 small)) .whole))

@@ -96,11 +96,8 @@ pub is-zero : (a : Float) → eq a (fin false 0 (pos 0)) ≡ isZero a
 unfolding eq
 is-zero nan = refl
 is-zero (inf s) = refl
-is-zero (fin s m e) = level-zero s m (m * up e * 1) (0 * 1 * down e) (none (down e)) (gone m (up e)) (there m (up e) (up-pos e))
+is-zero (fin s m e) = level-zero s m (m * up e * 1) (0 * 1 * down e) (omega arith) (gone m (up e)) (there m (up e) (up-pos e))
   where
-    none : (d : ℕ) → 0 * 1 * d ≡ 0
-    none d = omega arith
-
     gone : (m u : ℕ) → m ≡ 0 → m * u * 1 ≡ 0
     gone m u z = rw z (omega arith)
 
