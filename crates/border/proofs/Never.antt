@@ -1,6 +1,6 @@
 -- For a p of the box no step of the border's temperature is lost: the border is n4 and the root of a number above 0, and lies from n4 + 50 to n4 + 300. So
 -- the test against it refuses with 8 or not at all. Assumes nothing.
-use mathlib.Core.Path.{_≡_, refl, sym, ap, _∙_}
+use mathlib.Core.Path.{_≡_, refl, ap, _∙_}
 use Prim.Native.Nat.{ℕ, zero, suc}
 use native.Mathlib.Omega.{arith}
 use mathlib.Core.Bool.{Bool, true, false, cond}

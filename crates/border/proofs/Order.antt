@@ -10,7 +10,7 @@ use lib.Ieee.{Float, nan, inf, fin, binary64, up, down, round, sum, add, sub, di
 use lib.Ieee.Bits.{is-true}
 use lib.Ieee.Fits.{up-pos}
 use lib.Ieee.Order.{round-mono}
-use lib.Ieee.Positive.{num, den, den-pos, positive, above, above-of-le, first-pos, le→cross, cross→le, le-trans-positive}
+use lib.Ieee.Positive.{num, den, den-pos, positive, above-of-le, first-pos, le→cross, cross→le, le-trans-positive}
 
 -- ---- the operations, as rounded fractions
 

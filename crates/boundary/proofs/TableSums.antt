@@ -15,9 +15,9 @@ use Rattle.common.specs.Sum.{total, rawTotal, every}
 use Rattle.common.proofs.Laws.{mul-right, inside-check, raw-inside, step}
 use Rattle.common.proofs.Sums.{total-check, both-left, both-right, T-true}
 use Rattle.rules.specs.Power.{powerRule}
-use Rattle.rules.specs.RawPower.{rawPower, keptPower}
+use Rattle.rules.specs.RawPower.{rawPower, lookedPower}
 use Rattle.rules.specs.Log.{logarithmRule}
-use Rattle.rules.proofs.Powers.{power-kept}
+use Rattle.rules.proofs.Powers.{power-looked}
 use Rattle.rules.proofs.Usual.{usual-raw}
 use Rattle.sizes.specs.Usual.{usualBase}
 use Rattle.boundary.specs.Boundary.{Term, term, Argument, inP, inLn, Row, row, table, termRule, walkRule, at, rowAt}
@@ -43,7 +43,7 @@ settled : (x : Float) (i : ℤ) (f s : Bool) → finite x ≡ f → leb (natAbs 
 unfolding powerRule
 settled x i false s e d = rw e
 settled x i true false e d = rw (e, d)
-settled x i true true e d = raw-inside (powerRule x i) (keptPower x i) (power-kept x i e d)
+settled x i true true e d = raw-inside (powerRule x i) (lookedPower x i) (power-looked x i e d)
 
 abbrev any : Term → Bool
 any t = true

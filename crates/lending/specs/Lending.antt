@@ -1,5 +1,5 @@
 -- To believe: what a call of the column run on columns of given lengths comes to, and what calls come to together.
-use Prim.Native.Nat.{ℕ, _+_, _-_, _%_, _^_}
+use Prim.Native.Nat.{ℕ, _+_, _%_, _^_, min}
 use mathlib.Core.Bool.{Bool, cond, not}
 use mathlib.Core.List.{List, [], _∷_}
 use lib.Dec.{eqb}
@@ -34,7 +34,7 @@ cameTo a =
 
 -- so many cells of a column of 5
 abbrev pub rows : {A : Type 0} → A → ℕ → List A
-rows x n = take (n - (n - 5)) (replicate 5 x)
+rows x n = take (min n 5) (replicate 5 x)
 
 -- p = 24 and T = 650 in each row, and 90 in each cell of the other three columns
 unfoldable pub lendRule : ℕ → ℕ → ℕ → ℕ → ℕ → Call

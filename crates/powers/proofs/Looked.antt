@@ -13,8 +13,8 @@ use borrow.Author.Tests.{le-ltb, le-leb, lt-leb, ltb-true, ltb-false, leb-true}
 use Rattle.common.specs.Outcome.{finite, check, inside}
 use Rattle.common.proofs.Laws.{inside-check, raw-inside}
 use Rattle.rules.specs.Power.{powerRule}
-use Rattle.rules.specs.RawPower.{rawPower, keptPower}
-use Rattle.rules.proofs.Powers.{power-kept}
+use Rattle.rules.specs.RawPower.{rawPower, lookedPower}
+use Rattle.rules.proofs.Powers.{power-looked}
 use Rattle.rules.proofs.Usual.{power-usual}
 use Rattle.sizes.specs.Usual.{usualBase}
 use Rattle.powers.specs.Powers.{WrittenBy, BarePowers, Powers, ruled, capped, highest, lookedUp, placeOf}
@@ -92,7 +92,7 @@ holds a f b w u d p e n g t = by (leb (natAbs n) 64) refl
 
 pub powers-hold : (a : Float) (b w : List Float) (u d : ℕ) → length b ≡ 129 → Powers a b w u d → Holds a w u d
 powers-hold a b w u d l p =
-    holds a (ruled a) b w u d (p .stand l) (λ n f s. sym (raw-inside (powerRule a n) (keptPower a n) (power-kept a n f s)))
+    holds a (ruled a) b w u d (p .stand l) (λ n f s. sym (raw-inside (powerRule a n) (lookedPower a n) (power-looked a n f s)))
 
 -- at a usual base no power needs a look
 pub bare-hold : (a : Float) (b w : List Float) (u d : ℕ) → usualBase a ≡ true → length b ≡ 129 → BarePowers a b w u d → Holds a w u d
