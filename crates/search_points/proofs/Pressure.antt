@@ -15,7 +15,7 @@ use Rattle.rules.specs.Exp.{exponentialRule, expSteps, nearestWhole}
 use Rattle.algo.specs.Table.{sumRule}
 use Rattle.algo.specs.Joint.{shareRule}
 use Rattle.border.specs.Border.{B23-T2p, B23-p2T}
-use Rattle.helmholtz.specs.Table30.{table30}
+use Rattle.printed.specs.Table30.{table30}
 use Rattle.helmholtz.specs.Hfe.{slope, phi, phi-delta, phi-deltadelta, share, joint-phi, joint-delta, four-delta, four-deltadelta}
 use Rattle.properties.specs.Td.{Td2v, Td2p, Td2h, Td2s, Td2u, Td2cv, Td2cp, Td2w, statePressure}
 use Rattle.secant.specs.Secant.{Proposal, missingAt, openedBy, startOf, trialBy, turnOf, trialsFrom, proposalFrom, proposalRule}
