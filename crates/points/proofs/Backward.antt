@@ -37,18 +37,10 @@ values-agree = refl
 
 -- ---- the sides: 2095.936454 divides at 25 MPa, and the critical entropy belongs to 3a
 
-pub below-line : side-ph (whole 25) (whole 2095) ≡ value A
+pub sides :
+    (side-ph (whole 25) (whole 2095) ≡ value A)
+    × (side-ph (whole 25) (whole 2096) ≡ value B)
+    × (side-s SC-WATER ≡ A)
+    × (side-s (decimal 4_412021482234761 15) ≡ B)
 unfolding side-ph h3ab scaled decimal whole plus minus round neg add sub sum mul div ofInt le lt
-below-line = refl
-
-pub above-line : side-ph (whole 25) (whole 2096) ≡ value B
-unfolding side-ph h3ab scaled decimal whole plus minus round neg add sub sum mul div ofInt le lt
-above-line = refl
-
-pub at-critical : side-s SC-WATER ≡ A
-unfolding scaled decimal whole plus minus round neg add sub sum mul div ofInt le lt
-at-critical = refl
-
-pub above-critical : side-s (decimal 4_412021482234761 15) ≡ B
-unfolding scaled decimal whole plus minus round neg add sub sum mul div ofInt le lt
-above-critical = refl
+sides = (refl, refl, refl, refl)
