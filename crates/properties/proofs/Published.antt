@@ -12,7 +12,7 @@ use Rattle.rules.specs.Log.{logarithmRule, L}
 use Rattle.rules.specs.Root.{rootRule, nearestRoot, wholeRoot}
 use Rattle.algo.specs.Table.{sumRule}
 use Rattle.algo.specs.Joint.{shareRule}
-use Rattle.helmholtz.specs.Table30.{table30}
+use Rattle.printed.specs.Table30.{table30}
 use Rattle.helmholtz.specs.Hfe.{slope, share, phi-delta, joint-phi, joint-delta, four-delta, four-deltadelta}
 use Rattle.properties.specs.Td.{Formula, Td2p, Td2h, Td2u, Td2s, Td2cp, Td2w}
 use Rattle.common.proofs.Printed.{Value, prints, agrees}

@@ -15,7 +15,7 @@ use Rattle.rules.specs.Exp.{exponentialRule, expSteps, nearestWhole}
 use Rattle.algo.specs.Table.{sumRule}
 use Rattle.algo.specs.Joint.{shareRule}
 use Rattle.border.specs.Border.{B23-T2p, B23-p2T}
-use Rattle.helmholtz.specs.Table30.{table30}
+use Rattle.printed.specs.Table30.{table30}
 use Rattle.helmholtz.specs.Hfe.{slope, phi, phi-delta, phi-deltadelta, share, joint-phi, joint-delta, four-delta, four-deltadelta}
 use Rattle.properties.specs.Td.{Td2v, Td2p, Td2h, Td2s, Td2u, Td2cv, Td2cp, Td2w, statePressure}
 use Rattle.secant.specs.Secant.{Proposal, missingAt, openedBy, startOf, trialBy, turnOf, trialsFrom, proposalFrom, proposalRule}
@@ -47,17 +47,12 @@ unfolding pv2T-reg3Rule missingAt openedBy startOf trialBy turnOf trialsFrom pro
 above = refl
 
 -- a NaN before the ranges; p's range before v's; 1/0 is outside
-pub not-finite : pv2T-reg3Rule nan zeroF ≡ refused 1
+pub outside :
+    (pv2T-reg3Rule nan zeroF ≡ refused 1)
+    × (pv2T-reg3Rule (whole 101) zeroF ≡ refused 2)
+    × (pv2T-reg3Rule (whole 50) zeroF ≡ refused 3)
 unfolding pv2T-reg3Rule scaled decimal whole round div le
-not-finite = refl
-
-pub first : pv2T-reg3Rule (whole 101) zeroF ≡ refused 2
-unfolding pv2T-reg3Rule scaled decimal whole round div le
-first = refl
-
-pub second : pv2T-reg3Rule (whole 50) zeroF ≡ refused 3
-unfolding pv2T-reg3Rule scaled decimal whole round div le
-second = refl
+outside = (refl, refl, refl)
 
 -- the record's v is 1/d, and not the asked one
 pub not-asked : holdsV (decimal 0_00683270975577216 17) (pvRule (decimal 24_99 2) (decimal 0_0068327097557721594 19)) ≡ true

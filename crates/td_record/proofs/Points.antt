@@ -18,7 +18,7 @@ use Rattle.algo.specs.Table.{sumRule}
 use Rattle.algo.specs.Joint.{shareRule}
 use Rattle.record.specs.Record.{report, zeroRecord, fieldsOf}
 use Rattle.record.specs.declared.Record.{Record}
-use Rattle.helmholtz.specs.Table30.{table30}
+use Rattle.printed.specs.Table30.{table30}
 use Rattle.helmholtz.specs.Hfe.{slope, share, phi-delta, joint-phi, joint-delta, four-delta, four-deltadelta}
 use Rattle.properties.specs.Td.{Td2v, Td2p, Td2h, Td2u, Td2s, Td2cv, Td2cp, Td2w, statePressure}
 use Rattle.common.proofs.Printed.{printedAs}

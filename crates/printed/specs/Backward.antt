@@ -1,4 +1,4 @@
--- The tables of S03rev and S04rev, as printed: a row has I, J and n = 0.digits * 10^e. Assumes nothing: these are definitions.
+-- To believe: the tables of S03rev and S04rev, as printed: a row has I, J and n = 0.digits * 10^e. Assumes nothing: these are definitions.
 use mathlib.Core.List.{List, [], _∷_}
 use lib.IntN.{pos}
 use Rattle.common.specs.Decimal.{plus, minus, negative}
