@@ -1,4 +1,4 @@
--- What is found by equal outcomes is equal. Assumes nothing.
+-- What is found by equal outcomes is equal.
 use mathlib.Core.Path.{_≡_}
 use lib.Ieee.{Float}
 use Rattle.common.specs.Outcome.{Outcome}

@@ -4,10 +4,9 @@
 use mathlib.Core.Path.{_≡_, refl}
 use mathlib.Core.Bool.{true, false}
 use mathlib.Core.List.{List, [], _∷_, map}
-use Prim.Native.Nat.{ℕ}
 use lib.IntN.{pos, negsuc}
 use lib.Ieee.{Float, nan, inf, round, neg, add, sub, sum, mul, div, ofInt, le}
-use Rattle.common.specs.Outcome.{Outcome, value, numberIn}
+use Rattle.common.specs.Outcome.{numberIn}
 use Rattle.common.specs.Decimal.{scaled, decimal, whole, plus, minus}
 use Rattle.common.specs.Sum.{total, every}
 use Rattle.rules.specs.Units.{inUnits}

@@ -1,4 +1,4 @@
--- `backward::raw_worked` meets its contract. Assumes nothing.
+-- `backward::raw_worked`: the equation with its numbers, then its steps.
 use mathlib.Core.Path.{_∙_, ap}
 use borrow.Author.Needs.{needs}
 use Rattle.backward.specs.declared.Form.{Form}

@@ -1,4 +1,4 @@
--- `backward::worked_by` meets its contract: each arm's proof has the shape of its equation. Assumes nothing.
+-- `backward::worked_by`: each arm's proof has the shape of its equation.
 use Rattle.algo.proofs.Step.{raw-sumOf}
 use Rattle.common.proofs.Formulas.{raw-first, raw-plus, raw-less, raw-scale, raw-under, named}
 use mathlib.Core.Path.{sym}
@@ -45,7 +45,5 @@ pub worked-by-spec : {M : Type 1} → statement M
 worked-by-spec =
     tie.close
     (tie.spec
-    (λ c. search needs) (λ c κs. search needs)
-    (λ c. search needs) (λ c κs. search needs)
-    (λ c. search needs) (λ c κs. search needs) (λ c κs. search needs)
-    returns returns-2 returns-3)
+    (λ c. search needs) (λ c κs. search needs) (λ c. search needs) (λ c κs. search needs) (λ c. search needs) (λ c κs. search needs)
+    (λ c κs. search needs) returns returns-2 returns-3)

@@ -1,4 +1,4 @@
--- `backward::found_ph` meets its contract: the rule from what the side's choice answered, then T and v on it. Assumes nothing.
+-- `backward::found_ph`: the rule from what the side's choice answered, then T and v on it.
 use mathlib.Core.Path.{_≡_, sym, ap, _∙_}
 use lib.Ieee.{Float}
 use borrow.Author.Needs.{needs}
@@ -34,5 +34,5 @@ pub found-ph-spec : {M : Type 1} → statement M
 found-ph-spec =
     tie.close
     (tie.spec
-    (λ c κs. search needs) (λ c. search needs) (λ c κs. search needs) (λ c κs. search needs) (λ c κs. search needs) (λ c. search needs)
-    returns returns-2)
+    (λ c κs. search needs) (λ c. search needs) (λ c κs. search needs) (λ c κs. search needs) (λ c κs. search needs) (λ c. search needs) returns
+    returns-2)

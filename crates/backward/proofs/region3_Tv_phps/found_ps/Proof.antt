@@ -1,4 +1,4 @@
--- `backward::found_ps` meets its contract: T and v on the side of s. Assumes nothing.
+-- `backward::found_ps`: T and v on the side of s.
 use mathlib.Core.Path.{ap, _∙_}
 use borrow.Author.Needs.{needs}
 use Rattle.backward.specs.declared.Side.{Side}

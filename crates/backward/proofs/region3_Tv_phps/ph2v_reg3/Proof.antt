@@ -1,4 +1,4 @@
--- `backward::ph2v_reg3` meets its contract: the box, the side, then the equation and the test of what it gives. Assumes nothing.
+-- `backward::ph2v_reg3`: the box, the side, then the equation and the test of what it gives.
 use mathlib.Core.Path.{_≡_, sym, ap, _∙_}
 use lib.Ieee.{Float}
 use borrow.Author.Needs.{needs}
@@ -42,5 +42,4 @@ ph2v-reg3-spec =
     tie.close
     (tie.spec
     (λ c κs. search needs) (λ c. search needs) (λ c κs. search needs) (λ c. search needs) (λ c κs. search needs) (λ c κs. search needs)
-    (λ c. search needs) (λ c. search needs)
-    returns returns-2 returns-3)
+    (λ c. search needs) (λ c. search needs) returns returns-2 returns-3)

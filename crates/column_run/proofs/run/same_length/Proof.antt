@@ -1,4 +1,4 @@
--- `column_run::same_length` meets its contract. Assumes nothing.
+-- `column_run::same_length`: by the first length that differs.
 use borrow.Author.Tests.{eq-eqb, ne-eqb}
 use Rattle.column_run.proofs.run.same_length.Statement.{statement}
 use Rattle.column_run.proofs.run.same_length.Tie as tie

@@ -1,4 +1,4 @@
--- `volume::found` meets its contract. Assumes nothing.
+-- `volume::found`: by what the density answers.
 use mathlib.Core.Path.{_≡_, sym, ap, _∙_}
 use lib.Ieee.{Float}
 use borrow.Author.Needs.{needs}

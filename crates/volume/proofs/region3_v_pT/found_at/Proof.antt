@@ -1,4 +1,4 @@
--- `volume::found_at` meets its contract: the origin, then the state. Assumes nothing.
+-- `volume::found_at`: the origin, then the state.
 use mathlib.Core.Path.{_≡_, sym, ap, _∙_}
 use borrow.Author.Needs.{needs}
 use Rattle.common.specs.Outcome.{Outcome, then}

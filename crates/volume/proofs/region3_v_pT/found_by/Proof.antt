@@ -1,4 +1,4 @@
--- `volume::found_by` meets its contract. Assumes nothing.
+-- `volume::found_by`: by the origin.
 use mathlib.Core.Path.{sym, ap, _∙_}
 use lib.Ieee.{ofBits, round}
 use borrow.Author.Needs.{needs}
@@ -25,11 +25,4 @@ returns-2 c = rw (c .before .enum-told .given .1) (c .found2 .ensures)
 pub found-by-spec : {M : Type 1} → statement M
 found-by-spec =
     tie.close
-    (tie.spec
-    (λ c. search needs)
-    (λ c κs. search needs)
-    (λ c κs. search needs)
-    (λ c. search needs)
-    (λ c κs. search needs)
-    returns
-    returns-2)
+    (tie.spec (λ c. search needs) (λ c κs. search needs) (λ c κs. search needs) (λ c. search needs) (λ c κs. search needs) returns returns-2)

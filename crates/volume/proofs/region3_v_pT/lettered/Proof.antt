@@ -1,11 +1,10 @@
--- `volume::lettered` meets its contract: what the letter choice answered, wrapped. Assumes nothing.
+-- `volume::lettered`: what the letter choice answered, wrapped.
 use mathlib.Core.Path.{_≡_, sym, ap, _∙_}
 use borrow.Author.Needs.{needs}
 use Rattle.common.specs.Outcome.{Outcome, value, then}
 use Rattle.subregion.specs.Letter.{paperLetter}
 use Rattle.subregion.specs.declared.Letter.{Letter}
 use Rattle.subregion.specs.declared.LetterAnswer.{LetterAnswer}
-use Rattle.record.specs.declared.Origin.{Origin}
 use Rattle.record.specs.declared.Origin.the-variants.{Subregion}
 use Rattle.volume.specs.Volumes.{letteredAt}
 use Rattle.volume.proofs.region3_v_pT.lettered.Statement.{statement}

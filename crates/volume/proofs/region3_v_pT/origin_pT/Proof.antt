@@ -1,4 +1,4 @@
--- `volume::origin_pT` meets its contract: the box and the border, then the steps. Assumes nothing.
+-- `volume::origin_pT`: the box and the border, then the steps.
 use mathlib.Core.Path.{sym, _∙_}
 use borrow.Author.Needs.{needs}
 use Rattle.common.proofs.Calls.{going-on, turned-away}

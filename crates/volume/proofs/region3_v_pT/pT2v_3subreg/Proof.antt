@@ -1,4 +1,4 @@
--- `volume::pT2v_3subreg` meets its contract: the box, then the volume with its density. Assumes nothing.
+-- `volume::pT2v_3subreg`: the box, then the volume with its density.
 use mathlib.Core.Path.{sym, ap, _∙_}
 use borrow.Author.Needs.{needs}
 use Rattle.common.proofs.Calls.{going-on, turned-away}

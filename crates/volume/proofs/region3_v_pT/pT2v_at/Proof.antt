@@ -1,4 +1,4 @@
--- `volume::pT2v_at` meets its contract: the origin, then the volume. Assumes nothing.
+-- `volume::pT2v_at`: the origin, then the volume.
 use mathlib.Core.Path.{_≡_, sym, ap, _∙_}
 use borrow.Author.Needs.{needs}
 use Rattle.common.specs.Outcome.{Outcome, then}

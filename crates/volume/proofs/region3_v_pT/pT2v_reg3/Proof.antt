@@ -1,4 +1,4 @@
--- `volume::pT2v_reg3` meets its contract: the box, then the volume of the state. Assumes nothing.
+-- `volume::pT2v_reg3`: the box, then the volume of the state.
 use mathlib.Core.Path.{sym, ap, _∙_}
 use borrow.Author.Needs.{needs}
 use Rattle.common.proofs.Calls.{going-on, turned-away}

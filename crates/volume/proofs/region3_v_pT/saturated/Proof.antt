@@ -1,4 +1,4 @@
--- `volume::saturated` meets its contract: each return rewrites the rule with the phase and the tests that led there. Assumes nothing.
+-- `volume::saturated`: each return rewrites the rule with the phase and the tests that led there.
 use lib.Ieee.{ofBits}
 use borrow.Author.Needs.{needs}
 use Rattle.common.specs.Decimal.{decimal, scaled}
@@ -40,7 +40,4 @@ returns-8 c = rw (c .before .before .before .enum-told2 .given .1, c .before .be
 pub saturated-spec : {M : Type 1} → statement M
 saturated-spec =
     tie.close
-    (tie.spec
-    (λ c. search needs) returns returns-2 returns-3
-    (λ c. search needs) returns-4 returns-5 returns-6
-    returns-7 returns-8)
+    (tie.spec (λ c. search needs) returns returns-2 returns-3 (λ c. search needs) returns-4 returns-5 returns-6 returns-7 returns-8)

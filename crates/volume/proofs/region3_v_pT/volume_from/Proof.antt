@@ -1,4 +1,4 @@
--- `volume::volume_from` meets its contract: by the origin. Assumes nothing.
+-- `volume::volume_from`: by the origin.
 use mathlib.Core.Path.{sym, ap, _∙_}
 use lib.Ieee.{ofBits, round}
 use borrow.Author.Needs.{needs}
@@ -22,11 +22,4 @@ returns-2 c = rw (c .before .enum-told .given .1) (c .settle2 .ensures)
 pub volume-from-spec : {M : Type 1} → statement M
 volume-from-spec =
     tie.close
-    (tie.spec
-    (λ c. search needs)
-    (λ c κs. search needs)
-    (λ c κs. search needs)
-    (λ c. search needs)
-    (λ c κs. search needs)
-    returns
-    returns-2)
+    (tie.spec (λ c. search needs) (λ c κs. search needs) (λ c κs. search needs) (λ c. search needs) (λ c κs. search needs) returns returns-2)

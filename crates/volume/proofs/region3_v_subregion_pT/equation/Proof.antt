@@ -1,4 +1,4 @@
--- `volume::equation` meets its contract: the numbers of each arm are the table's decimals. Assumes nothing.
+-- `volume::equation`: the numbers of each arm are the table's decimals.
 use mathlib.Core.Path.{sym, ap}
 use lib.Ieee.{ofBits}
 use borrow.Author.Needs.{needs}
@@ -12,32 +12,10 @@ unfolding ofBits decimal whole scaled
 equation-spec =
     tie.close
     (tie.spec
-    (λ c. search needs)
-    (λ c. search needs)
-    (λ c. search needs)
-    (λ c. search needs)
-    (λ c. search needs)
-    (λ c. search needs)
-    (λ c. search needs)
-    (λ c. search needs)
-    (λ c. search needs)
-    (λ c. search needs)
-    (λ c. search needs)
-    (λ c. search needs)
-    (λ c. search needs)
-    (λ c. search needs)
-    (λ c. search needs)
-    (λ c. search needs)
-    (λ c. search needs)
-    (λ c. search needs)
-    (λ c. search needs)
-    (λ c. search needs)
-    (λ c. search needs)
-    (λ c. search needs)
-    (λ c. search needs)
-    (λ c. search needs)
-    (λ c. search needs)
-    (λ c. search needs)
+    (λ c. search needs) (λ c. search needs) (λ c. search needs) (λ c. search needs) (λ c. search needs) (λ c. search needs) (λ c. search needs)
+    (λ c. search needs) (λ c. search needs) (λ c. search needs) (λ c. search needs) (λ c. search needs) (λ c. search needs) (λ c. search needs)
+    (λ c. search needs) (λ c. search needs) (λ c. search needs) (λ c. search needs) (λ c. search needs) (λ c. search needs) (λ c. search needs)
+    (λ c. search needs) (λ c. search needs) (λ c. search needs) (λ c. search needs) (λ c. search needs)
     (λ c. sym (ap equationOf (c .enum-told .given .1)))
     (λ c. sym (ap equationOf (c .enum-told2 .given .1)))
     (λ c. sym (ap equationOf (c .enum-told3 .given .1)))

@@ -1,4 +1,4 @@
--- `volume::raw_volume` meets its contract. Assumes nothing.
+-- `volume::raw_volume`: the volume by the equation of the letter.
 use mathlib.Core.Path.{_∙_, ap}
 use borrow.Author.Needs.{needs}
 use Rattle.tables.specs.Summed.{summed}
