@@ -3,7 +3,7 @@
 use mathlib.Core.Path.{_≡_, refl, sym, subst, _∙_}
 use Prim.Native.Nat.{ℕ}
 use lib.Ieee.{Float, binary64, add, sub, mul, div}
-use Rattle.common.specs.Outcome.{Outcome, value, refused, check, then, inside, orNan}
+use Rattle.common.specs.Outcome.{Outcome, value, refused, check, inside, orNan}
 use Rattle.common.specs.Decimal.{whole}
 use Rattle.common.specs.Constant.{RGAS-WATER, TC-WATER, DC-WATER}
 use Rattle.common.specs.Formula.{worked, _⊕_, _⊖_, _⊗_, _⊘_, minusOf}

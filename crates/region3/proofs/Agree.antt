@@ -1,4 +1,4 @@
--- The column run beside the record and the letter choice. Assumes nothing.
+-- The column run beside the record and the letter choice.
 use Rattle.record.specs.Record.{byteOf}
 use Rattle.common.specs.Formula.{_⊘_}
 use Prim.Native.Nat.{ℕ}

@@ -1,4 +1,4 @@
--- `backward::raw_on` meets its contract: by the side. Assumes nothing.
+-- `backward::raw_on`: by the side.
 use borrow.Author.Needs.{needs}
 use Rattle.backward.proofs.region3_Tv_phps.raw_on.Statement.{statement}
 use Rattle.backward.proofs.region3_Tv_phps.raw_on.Tie as tie

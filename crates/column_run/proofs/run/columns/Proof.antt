@@ -1,4 +1,4 @@
--- `column_run::columns` meets its contract. Assumes nothing.
+-- `column_run::columns`: by whether the five lengths are one: then the two turns, one after the other.
 use mathlib.Core.Path.{_≡_, sym, _∙_}
 use lib.ListN.{length}
 use borrow.Author.Needs.{needs}
@@ -38,8 +38,4 @@ columns-spec =
     (λ c κs. search needs)
     mark-rows-requires
     fill-rows-requires
-    (λ c. search needs)
-    (λ c. search needs)
-    (λ c. search needs)
-    returns
-    returns-2)
+    (λ c. search needs) (λ c. search needs) (λ c. search needs) returns returns-2)

@@ -1,4 +1,4 @@
--- `column_run::row` meets its contract. Assumes nothing.
+-- `column_run::row`: the two turns of one row (TwoTurns).
 use borrow.Author.Needs.{needs}
 use Rattle.column_run.proofs.TwoTurns.{row-is}
 use Rattle.column_run.proofs.run.row.Statement.{statement}

@@ -1,4 +1,4 @@
--- `region3::record_of` meets its contract: by the case of what was found. Assumes nothing.
+-- `region3::record_of`: by the case of what was found.
 use borrow.Author.Needs.{needs}
 use Rattle.region3.proofs.region3.record_of.Statement.{statement}
 use Rattle.region3.proofs.region3.record_of.Tie as tie

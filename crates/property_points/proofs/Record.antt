@@ -1,5 +1,5 @@
--- Points of the record's rule, worked out by antt. At T = 750 K and d = 500 kg/m3 every field is the value that table 33 prints, and cv and v that of
--- crate by_number; a p that was found before stands in its field as it is. A refused call has +0.0 in every field: 1, 2, 3 of T and d, and 4 where p is
+-- Points of the record's rule, worked out by antt. At T = 750 K and d = 500 kg/m3 every field is the value that table 33 prints, and cv and v those of
+-- Numbers; a p that was found before stands in its field as it is. A refused call has +0.0 in every field: 1, 2, 3 of T and d, and 4 where p is
 -- outside its range.
 use mathlib.Core.Path.{_≡_, refl}
 use mathlib.Core.Bool.{Bool, true, false, _&&_}
