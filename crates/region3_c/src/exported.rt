@@ -18,7 +18,7 @@ ghost use Rattle.common.specs.Answer.{paper};
 ghost use Rattle.subregion.specs.Letter.{paperLetter};
 ghost use Rattle.record.specs.Record.{paperRecord};
 ghost use Rattle.exchange_entry.specs.Call.{paperExchange};
-ghost use Rattle.place.specs.Found.{paperFound};
+ghost use Rattle.place.specs.AcceptedPlace.{paperFound};
 ghost use Rattle.search.specs.Calls.{paperSearched};
 ghost use Rattle.region3_c.specs.Exported.{lentRecord, Exported, ExportedLetter, ExportedRecord, ExportedFound, ExportedSearched, ExportedExchange};
 

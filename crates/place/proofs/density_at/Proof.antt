@@ -6,7 +6,7 @@ use Rattle.common.specs.Outcome.{Outcome, check, then}
 use Rattle.common.specs.Answer.{paper}
 use Rattle.common.specs.Decimal.{whole, scaled}
 use Rattle.common.specs.declared.Answer.{Answer}
-use Rattle.place.specs.Found.{densityAt}
+use Rattle.place.specs.AcceptedPlace.{densityAt}
 use Rattle.place.proofs.density_at.Statement.{statement}
 use Rattle.place.proofs.density_at.Tie as tie
 

@@ -3,7 +3,7 @@ use mathlib.Core.Path.{_≡_, sym, ap, _∙_}
 use borrow.Author.Needs.{needs}
 use Rattle.common.specs.Outcome.{Outcome, then}
 use Rattle.secant.specs.Secant.{proposalRule}
-use Rattle.place.specs.Found.{Starts, proposedFor, paperStarts}
+use Rattle.place.specs.AcceptedPlace.{Starts, proposedFor, paperStarts}
 use Rattle.place.specs.declared.StartsAnswer.{StartsAnswer}
 use Rattle.place.proofs.proposed.Statement.{statement}
 use Rattle.place.proofs.proposed.Tie as tie

@@ -9,7 +9,7 @@ use Rattle.common.specs.Decimal.{decimal, scaled}
 use Rattle.common.specs.declared.Answer.{Answer}
 use Rattle.border.specs.Border.{B23-p2T}
 use Rattle.secant.specs.declared.Curve.{Curve}
-use Rattle.place.specs.Found.{Starts, startsOf}
+use Rattle.place.specs.AcceptedPlace.{Starts, startsOf}
 use Rattle.place.proofs.Laws.{p2T-settled}
 use Rattle.place.proofs.starts.Statement.{statement}
 use Rattle.place.proofs.starts.Tie as tie
@@ -44,6 +44,5 @@ pub starts-spec : {M : Type 1} → statement M
 starts-spec =
     tie.close
     (tie.spec
-    (λ c. search needs) (λ c κs. search needs) (λ c κs. search needs) (λ c. search needs) (λ c. search needs)
-    (λ c. search needs) (λ c κs. search needs) (λ c. search needs) (λ c κs. search needs)
-    returns returns-2 returns-3 returns-4)
+    (λ c. search needs) (λ c κs. search needs) (λ c κs. search needs) (λ c. search needs) (λ c. search needs) (λ c. search needs)
+    (λ c κs. search needs) (λ c. search needs) (λ c κs. search needs) returns returns-2 returns-3 returns-4)

@@ -5,7 +5,7 @@ use borrow.Author.Needs.{needs}
 use Rattle.common.specs.Outcome.{Outcome, then}
 use Rattle.common.specs.Decimal.{whole, scaled}
 use Rattle.secant.specs.Secant.{Proposal}
-use Rattle.place.specs.Found.{paperFound}
+use Rattle.place.specs.AcceptedPlace.{paperFound}
 use Rattle.search.specs.Calls.{densityBy, recordOn, recordFound, reportSearched, pvRule}
 use Rattle.place.specs.declared.FoundAnswer.{FoundAnswer}
 use Rattle.search.proofs.calls.pv_reg3.Statement.{statement}
