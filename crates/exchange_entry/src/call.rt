@@ -26,10 +26,9 @@ use region3::ph_reg3;
 use region3::ps_reg3;
 use td_record::Td_reg3;
 ghost use mathlib.Core.Path.{_≡_};
-ghost use Rattle.common.specs.Outcome.{value, refused, numberIn};
+ghost use Rattle.common.specs.Outcome.{value};
 ghost use Rattle.common.specs.Answer.{paperVerdict};
 ghost use Rattle.record.specs.Record.{report, paperRecord};
-ghost use Rattle.exchange_record.specs.Reading.{readNumber};
 ghost use Rattle.exchange_entry.specs.Call.{pointAt, pointOf, entryRule, exchangeOf, paperExchange, heard, verdictNumber, verdictPair, Exchanged};
 
 // The point of two numbers, each under the unit that its pair says.

@@ -5,9 +5,9 @@ use mathlib.Core.Logic.{_⊎_}
 use mathlib.Core.List.{List, [], _∷_, _++_}
 use Prim.Native.Nat.{ℕ, _+_, _*_, _≤_, _<_}
 use lib.Dec.{leb, ltb, eqb}
-use lib.ListN.{length, getD, take, drop}
+use lib.ListN.{length, getD, drop}
 use Rattle.common.specs.Outcome.{Outcome, value, refused, then}
-use Rattle.exchange_record.specs.Grammar.{Field, said, Whole, spelt, word, wordFrom, pairOf, Cut, Course, skipped, taken, stopped, fateOf}
+use Rattle.exchange_record.specs.Grammar.{Field, said, Whole, spelt, word, pairOf, Cut, Course, skipped, taken, stopped, fateOf}
 use Rattle.exchange_record.specs.Reading.{readNumber}
 use Rattle.exchange_record.specs.declared.Asked.{Asked}
 use Rattle.exchange_record.specs.declared.Seen.{Seen}

@@ -7,12 +7,13 @@ use mathlib.Core.List.{List, [], _∷_, _++_}
 use Prim.Native.Nat.{ℕ, suc, _+_, _*_, _/_, _%_, _^_, _≤_, _<_}
 use native.Mathlib.Nat.{zero-add, add-mul-div-left, add-mul-mod-self-left, div-eq-of-lt, mod-eq-of-lt, div-add-mod', div-div-eq-div-mul}
 use native.Mathlib.Omega.{arith}
-use lib.Dec.{T, lit<, eqb, ltb}
+use lib.Dec.{T, lit<, eqb}
+use lib.IntN.{ℤ}
 use lib.ListN.{length, take, drop}
-use lib.Seq.{sets, sets-eq, take-at}
+use lib.Seq.{sets-eq, take-at}
 use lib.Ieee.{Float, nan, inf, fin, binary64, fits, isNan, toBits, ofBits}
 use lib.Ieee.Bits.{toBits-lt, toBits-ofBits}
-use borrow.Author.Tests.{le-ltb, ltb-false, eqb-true}
+use borrow.Author.Tests.{le-ltb, eqb-true}
 use Rattle.common.specs.Outcome.{Outcome, value, refused}
 use Rattle.record.specs.declared.Record.{Record}
 use Rattle.record.specs.Record.{report}
@@ -23,14 +24,14 @@ use Rattle.region3.specs.Entries.{pTRule, phRule, psRule, hsRule}
 use Rattle.exchange_record.specs.declared.Pair.{Pair}
 use Rattle.exchange_record.specs.declared.Pair.the-variants as pair
 use Rattle.exchange_record.specs.declared.Asked.{Asked}
-use Rattle.exchange_record.specs.Grammar.{Field, said, Whole, AllWhole, spelt, encoded, word, wordFrom, known, Tagged, tagged, pairs, pairIn, pairOf, Forms, Accepted}
+use Rattle.exchange_record.specs.Grammar.{Field, Whole, AllWhole, spelt, encoded, word, known, Tagged, tagged, pairs, pairIn, pairOf, Accepted}
 use Rattle.exchange_record.specs.Reading.{Means}
 use Rattle.exchange_record.proofs.Exchange.{one-outcome}
 use Rattle.exchange_entry.specs.declared.Point.{Point}
 use Rattle.exchange_entry.specs.declared.Point.the-variants as at
 use Rattle.exchange_entry.specs.Call.{pointAt, pointOf, entryRule}
-use Rattle.exchange_writer.specs.Written.{high, numberField, twoFields, recordOf, roomRule, after, writeRule, askedFor}
-use Rattle.exchange_writer.proofs.Laws.{record-length}
+use Rattle.exchange_writer.specs.Written.{high, numberField, twoFields, recordOf, roomRule, after, judgedIn, writeRule, askedFor}
+use Rattle.exchange_writer.proofs.Laws.{record-length, no-value, has-room, left, left-after}
 
 -- ---- a number and its bytes, the high byte first
 
@@ -47,14 +48,7 @@ word-high n h =
     let e7 : n / 2 ^ 56 ≡ 256 * (n / 2 ^ 64) + n / 2 ^ 56 % 256 = s (2 ^ 56) in
     let e8 : n / 2 ^ 64 ≡ 0 = div-eq-of-lt h in
     let w7 : 256 * 0 + n / 2 ^ 56 % 256 ≡ n / 2 ^ 56 = omega arith in
-    ap (λ (x : ℕ). wordFrom x (n / 2 ^ 48 % 256 ∷ n / 2 ^ 40 % 256 ∷ n / 2 ^ 32 % 256 ∷ n / 2 ^ 24 % 256 ∷ n / 2 ^ 16 % 256 ∷ n / 2 ^ 8 % 256 ∷ n % 256 ∷ [])) (w7)
-    ∙ ap (λ (x : ℕ). wordFrom x (n / 2 ^ 40 % 256 ∷ n / 2 ^ 32 % 256 ∷ n / 2 ^ 24 % 256 ∷ n / 2 ^ 16 % 256 ∷ n / 2 ^ 8 % 256 ∷ n % 256 ∷ [])) (sym e6)
-    ∙ ap (λ (x : ℕ). wordFrom x (n / 2 ^ 32 % 256 ∷ n / 2 ^ 24 % 256 ∷ n / 2 ^ 16 % 256 ∷ n / 2 ^ 8 % 256 ∷ n % 256 ∷ [])) (sym e5)
-    ∙ ap (λ (x : ℕ). wordFrom x (n / 2 ^ 24 % 256 ∷ n / 2 ^ 16 % 256 ∷ n / 2 ^ 8 % 256 ∷ n % 256 ∷ [])) (sym e4)
-    ∙ ap (λ (x : ℕ). wordFrom x (n / 2 ^ 16 % 256 ∷ n / 2 ^ 8 % 256 ∷ n % 256 ∷ [])) (sym e3)
-    ∙ ap (λ (x : ℕ). wordFrom x (n / 2 ^ 8 % 256 ∷ n % 256 ∷ [])) (sym e2)
-    ∙ ap (λ (x : ℕ). wordFrom x (n % 256 ∷ [])) (sym e1)
-    ∙ sym e0
+    rw (w7, ← e6, ← e5, ← e4, ← e3, ← e2, ← e1, ← e0)
   where
     split : (m : ℕ) → n / m ≡ 256 * (n / (m * 256)) + n / m % 256
     split m =
@@ -193,24 +187,20 @@ written-read (at.PH p e) h = two-read 1 4 (p .0) (e .0) pair.PH (h .0) (h .1) re
 written-read (at.PS p s) h = two-read 1 5 (p .0) (s .0) pair.PS (h .0) (h .1) refl refl
 written-read (at.HS e s) h = two-read 4 5 (e .0) (s .0) pair.HS (h .0) (h .1) refl refl
 
-value-refused : {A : Type 0} {x : A} {k : ℕ} → _≡_ {A = Outcome A} (value x) (refused k) → ⊥
-value-refused e = let z : _≡_ {A = ℕ} 0 1 = cc in omega arith
-
 -- what an accepted call of the writer leaves at the front is that record
 pub front-written : (x : Point) (found out : List ℕ) → writeRule x found ≡ (value tt, out) → take 22 out ≡ recordOf x
-front-written x found out e = go (report (entryRule x) .0) e
+front-written x found out e = go (judgedIn (length found) verdict) refl (sym (left-after verdict x found) ∙ e)
   where
-    room : (b : Bool) → ltb (length found) 22 ≡ b → _≡_ {A = Outcome Unit × List ℕ} (cond b (refused 16, found) (value tt, sets found 0 (recordOf x))) (value tt, out) → take 22 out ≡ recordOf x
-    room true t h = absurd (value-refused (sym (ap (λ (z : Outcome Unit × List ℕ). z .0) h)))
-    room false t h =
-        let l : 22 ≤ length found = ltb-false (length found) 22 t in
+    verdict : Outcome Unit
+    verdict = report (entryRule x) .0
+
+    go : (o : Outcome Unit) → judgedIn (length found) verdict ≡ o → left o x found ≡ (value tt, out) → take 22 out ≡ recordOf x
+    go (refused k) r h = absurd (no-value (ap (λ (z : Outcome Unit × List ℕ). z .0) h))
+    go (value u) r h =
+        let l : 22 ≤ length found = has-room (length found) verdict u r in
         let n : length (recordOf x) ≡ 22 = record-length x in
         ap (take 22) (sym (ap (λ (z : Outcome Unit × List ℕ). z .1) h) ∙ sets-eq (recordOf x) found 0 (omega arith))
         ∙ take-at (recordOf x) (drop (0 + length (recordOf x)) found) 22 n
-
-    go : (o : Outcome Unit) → after o x found ≡ (value tt, out) → take 22 out ≡ recordOf x
-    go (value u) h = room (ltb (length found) 22) refl h
-    go (refused k) h = absurd (value-refused (sym (ap (λ (z : Outcome Unit × List ℕ). z .0) h)))
 
 -- so whatever the reader may answer to it is that pair with those bits
 pub read-back : (x : Point) → AreF64 x → (found out : List ℕ) → writeRule x found ≡ (value tt, out) → (o : Outcome Asked) → Means (take 22 out) o → o ≡ value (askedFor x)
@@ -219,37 +209,26 @@ read-back x h found out e o m =
 
 -- ---- read, then written
 
-value-is : {k : ℕ} {r : Record} → _≡_ {A = Outcome Record} (refused k) (value r) → ⊥
-value-is e = let z : _≡_ {A = ℕ} 0 1 = cc in omega arith
+-- an entry accepts no NaN: its first test is of its two numbers
+module _ (rule : Float → Float → Outcome Record) (n : (b : Float) → rule nan b ≡ refused 1) (i : (s : Bool) → rule (inf s) nan ≡ refused 1)
+    (f : (s : Bool) (m : ℕ) (x : ℤ) → rule (fin s m x) nan ≡ refused 1) where
+  two-numbers : (a b : Float) (r : Record) → rule a b ≡ value r → T (not (isNan a)) × T (not (isNan b))
+  unfolding isNan
+  two-numbers nan b r e = absurd (no-value (sym (n b) ∙ e))
+  two-numbers (inf s) nan r e = absurd (no-value (sym (i s) ∙ e))
+  two-numbers (fin s m x) nan r e = absurd (no-value (sym (f s m x) ∙ e))
+  two-numbers (inf s) (inf t) r e = (tt, tt)
+  two-numbers (inf s) (fin t k y) r e = (tt, tt)
+  two-numbers (fin s m x) (inf t) r e = (tt, tt)
+  two-numbers (fin s m x) (fin t k y) r e = (tt, tt)
 
--- an entry accepts no NaN
 numbers : (p : Pair) (a b : Float) (r : Record) → entryRule (pointAt p a b) ≡ value r → T (not (isNan a)) × T (not (isNan b))
-unfolding isNan pTRule foundRule originRule recordRule phRule psRule hsRule hs2p-reg3Rule
-numbers pair.PT nan b r e = absurd (value-is e)
-numbers pair.PT (inf s) b r e = absurd (value-is e)
-numbers pair.PT (fin s m x) nan r e = absurd (value-is e)
-numbers pair.PT (fin s m x) (inf t) r e = absurd (value-is e)
-numbers pair.PT (fin s m x) (fin t n y) r e = (tt, tt)
-numbers pair.TD nan b r e = absurd (value-is e)
-numbers pair.TD (inf s) b r e = absurd (value-is e)
-numbers pair.TD (fin s m x) nan r e = absurd (value-is e)
-numbers pair.TD (fin s m x) (inf t) r e = absurd (value-is e)
-numbers pair.TD (fin s m x) (fin t n y) r e = (tt, tt)
-numbers pair.PH nan b r e = absurd (value-is e)
-numbers pair.PH (inf s) b r e = absurd (value-is e)
-numbers pair.PH (fin s m x) nan r e = absurd (value-is e)
-numbers pair.PH (fin s m x) (inf t) r e = absurd (value-is e)
-numbers pair.PH (fin s m x) (fin t n y) r e = (tt, tt)
-numbers pair.PS nan b r e = absurd (value-is e)
-numbers pair.PS (inf s) b r e = absurd (value-is e)
-numbers pair.PS (fin s m x) nan r e = absurd (value-is e)
-numbers pair.PS (fin s m x) (inf t) r e = absurd (value-is e)
-numbers pair.PS (fin s m x) (fin t n y) r e = (tt, tt)
-numbers pair.HS nan b r e = absurd (value-is e)
-numbers pair.HS (inf s) b r e = absurd (value-is e)
-numbers pair.HS (fin s m x) nan r e = absurd (value-is e)
-numbers pair.HS (fin s m x) (inf t) r e = absurd (value-is e)
-numbers pair.HS (fin s m x) (fin t n y) r e = (tt, tt)
+unfolding pTRule foundRule originRule recordRule phRule psRule hsRule hs2p-reg3Rule
+numbers pair.PT = two-numbers pTRule (λ b. refl) (λ s. refl) (λ s m x. refl)
+numbers pair.TD = two-numbers recordRule (λ b. refl) (λ s. refl) (λ s m x. refl)
+numbers pair.PH = two-numbers phRule (λ b. refl) (λ s. refl) (λ s m x. refl)
+numbers pair.PS = two-numbers psRule (λ b. refl) (λ s. refl) (λ s m x. refl)
+numbers pair.HS = two-numbers hsRule (λ b. refl) (λ s. refl) (λ s m x. refl)
 
 -- a pair is written with the tags that it is read by
 Matched : List Tagged → Type 0
@@ -258,10 +237,7 @@ Matched (tagged i j p ∷ rs) = ((a b : Float) → recordOf (pointAt p a b) ≡ 
 
 same-tags : (rs : List Tagged) → Matched rs → (x y : ℕ) (p : Pair) (a b : Float) → pairIn rs x y ≡ value p → recordOf (pointAt p a b) ≡ twoFields x a y b
 unfolding Matched
-same-tags [] m x y p a b e = absurd (none e)
-  where
-    none : _≡_ {A = Outcome Pair} (refused 14) (value p) → ⊥
-    none e = let z : _≡_ {A = ℕ} 0 1 = cc in omega arith
+same-tags [] m x y p a b e = absurd (no-value e)
 same-tags (tagged i j q ∷ rs) m x y p a b e = go (eqb x i) (eqb y j) refl refl (same-tags rs (m .1) x y p a b) e
   where
     go : (s t : Bool) → eqb x i ≡ s → eqb y j ≡ t → (pairIn rs x y ≡ value p → recordOf (pointAt p a b) ≡ twoFields x a y b)

@@ -1,7 +1,7 @@
 -- To believe: the record of a point, in the grammar that the reader goes by, and where it is written: the entry's own refusals, then 16, then 22 bytes at the
 -- front and every other byte as found. Assumes nothing: these are definitions.
 use mathlib.Core.Bool.{cond}
-use mathlib.Core.List.{List, [], _∷_, _++_}
+use mathlib.Core.List.{List, [], _∷_}
 use Prim.Native.Nat.{ℕ, _/_, _%_, _^_}
 use lib.Dec.{eqb, ltb}
 use lib.ListN.{length}

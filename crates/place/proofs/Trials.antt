@@ -7,7 +7,7 @@ use mathlib.Core.Bool.{Bool, true, false, cond}
 use mathlib.Core.List.{List, [], _∷_}
 use lib.ListN.{length}
 use lib.Ieee.{Float}
-use Rattle.common.specs.Outcome.{Outcome, value, refused}
+use Rattle.common.specs.Outcome.{value, refused}
 use Rattle.secant.specs.Secant.{MAX-ITER, startOf, Next, ended, tried, turnOf, afterTurn, trialsFrom, lastOr, Proposal, proposalFrom, proposalRule}
 use Rattle.secant.specs.declared.Curve.{Curve}
 use Rattle.secant.specs.declared.Secant.{Secant}

@@ -8,8 +8,7 @@ use Rattle.common.specs.Answer.{paper}
 use Rattle.common.specs.Decimal.{decimal, scaled}
 use Rattle.common.specs.declared.Answer.{Answer}
 use Rattle.border.specs.Border.{B23-p2T}
-use Rattle.secant.specs.declared.Curve.{Curve}
-use Rattle.place.specs.AcceptedPlace.{Starts, startsOf}
+use Rattle.place.specs.AcceptedPlace.{startsOf}
 use Rattle.place.proofs.Laws.{p2T-settled}
 use Rattle.place.proofs.starts.Statement.{statement}
 use Rattle.place.proofs.starts.Tie as tie

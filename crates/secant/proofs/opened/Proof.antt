@@ -1,8 +1,7 @@
 -- `secant::opened` meets its contract: each return by the tests that led there. Assumes nothing.
-use mathlib.Core.Path.{_≡_, sym, _∙_}
+use mathlib.Core.Path.{sym, _∙_}
 use lib.Ieee.{ofBits}
 use borrow.Author.Needs.{needs}
-use Rattle.common.specs.Outcome.{value, check}
 use Rattle.common.proofs.Laws.{check-kept, check-lost}
 use Rattle.secant.specs.Secant.{openedBy}
 use Rattle.secant.proofs.Steps.{gap, rawStep, step-is}

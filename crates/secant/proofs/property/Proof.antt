@@ -3,18 +3,11 @@ use borrow.Author.Needs.{needs}
 use Rattle.secant.proofs.property.Statement.{statement}
 use Rattle.secant.proofs.property.Tie as tie
 
-returns : tie.Need-returns
-returns c = rw (c .before .before .curve .given .1) (c .raw-p .ensures .raw)
-
-returns-2 : tie.Need-returns-2
-returns-2 c = rw (c .before .before .curve2 .given .1) (c .raw-h .ensures .raw)
-
-returns-3 : tie.Need-returns-3
-returns-3 c = rw (c .before .before .curve3 .given .1) (c .raw-s .ensures .raw)
-
 pub property-spec : {M : Type 1} → statement M
 property-spec =
     tie.close
     (tie.spec
     (λ c. search needs) (λ c κs. search needs) (λ c. search needs) (λ c κs. search needs) (λ c. search needs) (λ c κs. search needs)
-    returns returns-2 returns-3)
+    (λ c. rw (c .before .before .curve .given .1) (c .raw-p .ensures .raw))
+    (λ c. rw (c .before .before .curve2 .given .1) (c .raw-h .ensures .raw))
+    (λ c. rw (c .before .before .curve3 .given .1) (c .raw-s .ensures .raw)))

@@ -3,11 +3,9 @@ use borrow.Author.Needs.{needs}
 use Rattle.search.proofs.calls.found_in.Statement.{statement}
 use Rattle.search.proofs.calls.found_in.Tie as tie
 
-returns : tie.Need-returns
-returns c = rw (c .before .enum-told .given .1) (c .found .ensures)
-
-returns-2 : tie.Need-returns-2
-returns-2 c = rw (c .before .verdict .given .1)
-
 pub found-in-spec : {M : Type 1} → statement M
-found-in-spec = tie.close (tie.spec (λ c. search needs) (λ c κs. search needs) (λ c. search needs) returns returns-2)
+found-in-spec =
+    tie.close
+    (tie.spec
+    (λ c. search needs) (λ c κs. search needs) (λ c. search needs) (λ c. rw (c .before .enum-told .given .1) (c .found .ensures))
+    (λ c. rw (c .before .verdict .given .1)))
