@@ -5,7 +5,7 @@ use mathlib.Core.Path.{_≡_, refl, sym, ap, _∙_}
 use mathlib.Core.Bool.{Bool, true, false, cond, not, _&&_}
 use mathlib.Core.List.{List, [], _∷_, _++_}
 use Prim.Native.Nat.{ℕ, suc, _+_, _*_, _/_, _%_, _^_, _≤_, _<_}
-use native.Mathlib.Nat.{zero-add, add-mul-div-left, add-mul-mod-self-left, div-eq-of-lt, mod-eq-of-lt, div-add-mod', div-div-eq-div-mul}
+use native.Mathlib.Nat.{zero-add, mod-lt, div-eq-of-lt, div-add-mod', div-div-eq-div-mul}
 use native.Mathlib.Omega.{arith}
 use lib.Dec.{T, lit<, eqb}
 use lib.IntN.{ℤ}
@@ -59,50 +59,6 @@ word-high n h =
     first : n ≡ 256 * (n / 2 ^ 8) + n % 256
     first = let d = div-add-mod' n 256 in omega arith
 
--- one byte of a number: what stands below it, the byte, what stands above
-digit : (n m r b q : ℕ) → 0 < m → r < m → b < 256 → n ≡ r + m * (b + 256 * q) → n / m % 256 ≡ b
-digit n m r b q p h k e =
-    ap (λ (x : ℕ). x / m % 256) e
-    ∙ ap (λ (x : ℕ). x % 256) (add-mul-div-left r (b + 256 * q) p ∙ ap (λ (x : ℕ). x + (b + 256 * q)) (div-eq-of-lt h) ∙ zero-add (b + 256 * q))
-    ∙ add-mul-mod-self-left b 256 q
-    ∙ mod-eq-of-lt k
-
-eight-same : {a b c d e f g h a' b' c' d' e' f' g' h' : ℕ} → a ≡ a' → b ≡ b' → c ≡ c' → d ≡ d' → e ≡ e' → f ≡ f' → g ≡ g' → h ≡ h'
-    → _≡_ {A = List ℕ} (a ∷ b ∷ c ∷ d ∷ e ∷ f ∷ g ∷ h ∷ []) (a' ∷ b' ∷ c' ∷ d' ∷ e' ∷ f' ∷ g' ∷ h' ∷ [])
-eight-same p q r s t u v w = cc
-
-module _ (a b c d e f g h : ℕ) (ha : a < 256) (hb : b < 256) (hc : c < 256) (hd : d < 256) (he : e < 256) (hf : f < 256) (hg : g < 256) (hh : h < 256) where
-  word-small : word (a ∷ b ∷ c ∷ d ∷ e ∷ f ∷ g ∷ h ∷ []) < 2 ^ 64
-  word-small = omega arith
-
-  high-word : high (word (a ∷ b ∷ c ∷ d ∷ e ∷ f ∷ g ∷ h ∷ [])) ≡ a ∷ b ∷ c ∷ d ∷ e ∷ f ∷ g ∷ h ∷ []
-  high-word =
-      let n : ℕ = word (a ∷ b ∷ c ∷ d ∷ e ∷ f ∷ g ∷ h ∷ []) in
-      let r1 : ℕ = h in
-      let r2 : ℕ = h + 2 ^ 8 * g in
-      let r3 : ℕ = r2 + 2 ^ 16 * f in
-      let r4 : ℕ = r3 + 2 ^ 24 * e in
-      let r5 : ℕ = r4 + 2 ^ 32 * d in
-      let r6 : ℕ = r5 + 2 ^ 40 * c in
-      let r7 : ℕ = r6 + 2 ^ 48 * b in
-      let q6 : ℕ = a in
-      let q5 : ℕ = b + 2 ^ 8 * a in
-      let q4 : ℕ = c + 2 ^ 8 * q5 in
-      let q3 : ℕ = d + 2 ^ 8 * q4 in
-      let q2 : ℕ = e + 2 ^ 8 * q3 in
-      let q1 : ℕ = f + 2 ^ 8 * q2 in
-      let q0 : ℕ = g + 2 ^ 8 * q1 in
-      let last : n ≡ h + 256 * q0 = omega arith in
-      eight-same
-      (digit n (2 ^ 56) r7 a 0 (lit< tt) (omega arith) ha (omega arith))
-      (digit n (2 ^ 48) r6 b q6 (lit< tt) (omega arith) hb (omega arith))
-      (digit n (2 ^ 40) r5 c q5 (lit< tt) (omega arith) hc (omega arith))
-      (digit n (2 ^ 32) r4 d q4 (lit< tt) (omega arith) hd (omega arith))
-      (digit n (2 ^ 24) r3 e q3 (lit< tt) (omega arith) he (omega arith))
-      (digit n (2 ^ 16) r2 f q2 (lit< tt) (omega arith) hf (omega arith))
-      (digit n (2 ^ 8) r1 g q1 (lit< tt) (omega arith) hg (omega arith))
-      (ap (λ (x : ℕ). x % 256) last ∙ add-mul-mod-self-left h 256 q0 ∙ mod-eq-of-lt hh)
-
 abbrev pub AllBytes : List ℕ → Type 0
 AllBytes [] = Unit
 AllBytes (b ∷ bs) = (b < 256) × AllBytes bs
@@ -114,6 +70,32 @@ all-left (x ∷ xs) ys h = (h .0, all-left xs ys (h .1))
 all-right : (xs ys : List ℕ) → AllBytes (xs ++ ys) → AllBytes ys
 all-right [] ys h = h
 all-right (x ∷ xs) ys h = all-right xs ys (h .1)
+
+-- as many bytes that say the same number are the same bytes
+same-word : (xs ys : List ℕ) (a b : ℕ) → length xs ≡ length ys → AllBytes xs → AllBytes ys → wordFrom a xs ≡ wordFrom b ys → (a ≡ b) × (xs ≡ ys)
+same-word [] [] a b l h k e = (e, refl)
+same-word [] (y ∷ ys) a b l h k e = absurd (none l)
+  where
+    none : {n : ℕ} → 0 ≡ suc n → ⊥
+    none z = omega arith
+same-word (x ∷ xs) [] a b l h k e = absurd (none l)
+  where
+    none : {n : ℕ} → suc n ≡ 0 → ⊥
+    none z = omega arith
+same-word (x ∷ xs) (y ∷ ys) a b l h k e =
+    let r = same-word xs ys (256 * a + x) (256 * b + y) (omega arith) (h .1) (k .1) e in
+    let hx = h .0 in
+    let hy = k .0 in
+    let front = r .0 in
+    let ex : x ≡ y = omega arith in
+    let es : xs ≡ ys = r .1 in
+    (omega arith, (cc))
+
+byte : (n : ℕ) → n % 256 < 256
+byte n = mod-lt n (lit< tt)
+
+high-bytes : (n : ℕ) → AllBytes (high n)
+high-bytes n = (byte _, byte _, byte _, byte _, byte _, byte _, byte _, byte _, tt)
 
 not-eight : {A : Type 0} (n : ℕ) → (n ≡ 8 → ⊥) → n ≡ 8 → A
 not-eight n f e = absurd (f e)
@@ -129,17 +111,12 @@ eight-bytes (a ∷ b ∷ c ∷ d ∷ e ∷ []) l h = not-eight 5 (λ z. omega ar
 eight-bytes (a ∷ b ∷ c ∷ d ∷ e ∷ f ∷ []) l h = not-eight 6 (λ z. omega arith) l
 eight-bytes (a ∷ b ∷ c ∷ d ∷ e ∷ f ∷ g ∷ []) l h = not-eight 7 (λ z. omega arith) l
 eight-bytes (a ∷ b ∷ c ∷ d ∷ e ∷ f ∷ g ∷ i ∷ []) l h =
-    let ha = h .0 in
-    let h1 = h .1 in
-    let h2 = h1 .1 in
-    let h3 = h2 .1 in
-    let h4 = h3 .1 in
-    let h5 = h4 .1 in
-    let h6 = h5 .1 in
-    let h7 = h6 .1 in (
-      high-word a b c d e f g i ha (h1 .0) (h2 .0) (h3 .0) (h4 .0) (h5 .0) (h6 .0) (h7 .0),
-      word-small a b c d e f g i ha (h1 .0) (h2 .0) (h3 .0) (h4 .0) (h5 .0) (h6 .0) (h7 .0),
-    )
+    let xs : List ℕ = a ∷ b ∷ c ∷ d ∷ e ∷ f ∷ g ∷ i ∷ [] in
+    let small : word xs < 2 ^ 64 = fits a b c d e f g i h in
+    (same-word (high (word xs)) xs 0 0 refl (high-bytes (word xs)) h (word-high (word xs) small) .1, small)
+  where
+    fits : (a b c d e f g i : ℕ) → AllBytes (a ∷ b ∷ c ∷ d ∷ e ∷ f ∷ g ∷ i ∷ []) → word (a ∷ b ∷ c ∷ d ∷ e ∷ f ∷ g ∷ i ∷ []) < 2 ^ 64
+    fits a b c d e f g i h = omega (arith, h .0, h .1 .0, h .1 .1 .0, h .1 .1 .1 .0, h .1 .1 .1 .1 .0, h .1 .1 .1 .1 .1 .0, h .1 .1 .1 .1 .1 .1 .0, h .1 .1 .1 .1 .1 .1 .1 .0)
 eight-bytes (a ∷ b ∷ c ∷ d ∷ e ∷ f ∷ g ∷ i ∷ j ∷ xs) l h = absurd (long (length xs) l)
   where
     long : (n : ℕ) → suc (suc (suc (suc (suc (suc (suc (suc (suc n)))))))) ≡ 8 → ⊥
