@@ -24,7 +24,7 @@ use Rattle.region3.specs.Entries.{pTRule, phRule, psRule, hsRule}
 use Rattle.exchange_record.specs.declared.Pair.{Pair}
 use Rattle.exchange_record.specs.declared.Pair.the-variants as pair
 use Rattle.exchange_record.specs.declared.Asked.{Asked}
-use Rattle.exchange_record.specs.Grammar.{Field, Whole, AllWhole, spelt, encoded, word, known, Tagged, tagged, pairs, pairIn, pairOf, Accepted}
+use Rattle.exchange_record.specs.Grammar.{Field, Whole, AllWhole, spelt, encoded, word, wordFrom, known, Tagged, tagged, pairs, pairIn, pairOf, Accepted}
 use Rattle.exchange_record.specs.Reading.{Means}
 use Rattle.exchange_record.proofs.Exchange.{one-outcome}
 use Rattle.exchange_entry.specs.declared.Point.{Point}
@@ -95,7 +95,7 @@ byte : (n : ℕ) → n % 256 < 256
 byte n = mod-lt n (lit< tt)
 
 high-bytes : (n : ℕ) → AllBytes (high n)
-high-bytes n = (byte _, byte _, byte _, byte _, byte _, byte _, byte _, byte _, tt)
+high-bytes n = (byte _, (byte _, (byte _, (byte _, (byte _, (byte _, (byte _, (byte _, tt))))))))
 
 not-eight : {A : Type 0} (n : ℕ) → (n ≡ 8 → ⊥) → n ≡ 8 → A
 not-eight n f e = absurd (f e)
