@@ -2,7 +2,7 @@
 use Prim.Native.Nat.{ℕ}
 use mathlib.Core.Path.{_≡_, refl, sym, _∙_}
 use mathlib.Core.Bool.{Bool, true, false, cond}
-use lib.Ieee.{Float, binary64, div, round}
+use lib.Ieee.{Float, round}
 use Rattle.common.specs.Outcome.{Outcome, value, refused, finite, check}
 use Rattle.common.specs.Decimal.{whole, scaled}
 use Rattle.common.specs.Formula.{Raw}
@@ -10,10 +10,9 @@ use Rattle.common.specs.Range.{TdBox}
 use Rattle.common.proofs.Formulas.{raw-value, raw-check, raw-div}
 use Rattle.properties.specs.Td.{Td2v}
 use Rattle.record.specs.declared.Record.{Record}
-use Rattle.td_record.specs.Steps.{recordSteps, recordRule}
+use Rattle.td_record.specs.Steps.{recordRule}
 use Rattle.td_record.specs.declared.Pressure.the-variants.{Worked}
 use Rattle.td_record.proofs.RecordSteps.{steps-after}
-use Rattle.secant.specs.Secant.{Proposal}
 use Rattle.secant.specs.declared.Curve.the-variants.{Isochore, Enthalpy, Entropy}
 use Rattle.checks.specs.Checks.{checkPRule, checkHRule, checkSRule}
 use Rattle.checks.proofs.Promise.{went-on, no-value}

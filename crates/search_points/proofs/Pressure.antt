@@ -20,7 +20,7 @@ use Rattle.helmholtz.specs.Hfe.{slope, phi, phi-delta, phi-deltadelta, share, j
 use Rattle.properties.specs.Td.{Td2v, Td2p, Td2h, Td2s, Td2u, Td2cv, Td2cp, Td2w, statePressure}
 use Rattle.secant.specs.Secant.{Proposal, missingAt, openedBy, startOf, trialBy, turnOf, trialsFrom, proposalFrom, proposalRule}
 use Rattle.checks.specs.Checks.{heldTo, checkPRule, checkHRule, checkSRule}
-use Rattle.place.specs.Found.{densityAt, densitiesAt, startsOf, proposedFor, acceptedAt, foundOn}
+use Rattle.place.specs.AcceptedPlace.{densityAt, densitiesAt, startsOf, proposedFor, acceptedAt, foundOn}
 use Rattle.td_record.specs.Steps.{recordSteps, recordAfter}
 use Rattle.search.specs.Calls.{Searched, pv2T-reg3Rule, pvRule}
 

@@ -2,8 +2,6 @@
 use borrow.Author.Needs.{needs}
 use Rattle.exchange_writer.proofs.two_fields.Statement.{statement}
 use Rattle.exchange_writer.proofs.two_fields.Tie as tie
-use Rattle.exchange_writer.proofs.two_fields.Reads as reads
-use Rattle.exchange_writer.proofs.two_fields.Lts as lts
 
 returns : tie.Need-returns
 returns c = rw (c .before .before .before .before .put-float .ensures, c .before .put-float2 .ensures)
@@ -11,21 +9,8 @@ returns c = rw (c .before .before .before .before .put-float .ensures, c .before
 pub two-fields-spec : {M : Type 1} → statement M
 two-fields-spec =
     tie.close
-    (tie.spec (λ c. search needs) (λ c κs. search needs) (λ c. search needs) (λ c κs. search needs)
-    (λ c. search needs)
-    (λ c. search needs)
-    (λ c. search needs)
-    (λ c. search needs)
-    (λ c. search needs)
-    (λ c. search needs)
-    (λ c. search needs)
-    (λ c. search needs)
-    (λ c. search needs)
-    (λ c. search needs)
-    (λ c. search needs)
-    (λ c. search needs)
-    (λ c. search needs)
-    (λ c. search needs)
-    (λ c. search needs)
-    (λ c. search needs)
+    (tie.spec
+    (λ c. search needs) (λ c κs. search needs) (λ c. search needs) (λ c κs. search needs) (λ c. search needs) (λ c. search needs)
+    (λ c. search needs) (λ c. search needs) (λ c. search needs) (λ c. search needs) (λ c. search needs) (λ c. search needs) (λ c. search needs)
+    (λ c. search needs) (λ c. search needs) (λ c. search needs) (λ c. search needs) (λ c. search needs) (λ c. search needs) (λ c. search needs)
     returns)

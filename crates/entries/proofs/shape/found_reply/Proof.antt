@@ -2,7 +2,7 @@
 use mathlib.Core.Path.{sym, ap, _∙_}
 use lib.Ieee.{ofBits}
 use Rattle.reply.specs.Shape.{refusedBy}
-use Rattle.place.specs.Found.{paperFound}
+use Rattle.place.specs.AcceptedPlace.{paperFound}
 use Rattle.place.specs.declared.FoundAnswer.{FoundAnswer}
 use Rattle.entries.specs.Named.{foundReply}
 use borrow.Author.Needs.{needs}

@@ -1,7 +1,6 @@
 -- `exchange_entry::call::answer` meets its contract. Assumes nothing.
 use borrow.Author.Needs.{needs}
 use Rattle.common.specs.Outcome.{value, refused}
-use Rattle.exchange_record.specs.Reading.{readNumber}
 use Rattle.exchange_entry.proofs.call.answer.Statement.{statement}
 use Rattle.exchange_entry.proofs.call.answer.Tie as tie
 

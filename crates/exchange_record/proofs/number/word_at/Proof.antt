@@ -1,9 +1,5 @@
 -- `exchange_record::number::word_at` meets its contract. Assumes nothing.
-use mathlib.Core.Path.{_≡_, _∙_}
-use Prim.Native.Nat.{_+_, _*_, _^_}
-use native.Mathlib.Omega.{arith}
 use borrow.Author.Needs.{needs}
-use Rattle.exchange_record.specs.Walk.{halfAt}
 use Rattle.exchange_record.proofs.Bytes.{eight-bytes}
 use Rattle.exchange_record.proofs.number.word_at.Statement.{statement}
 use Rattle.exchange_record.proofs.number.word_at.Tie as tie

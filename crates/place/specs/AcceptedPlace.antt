@@ -1,6 +1,5 @@
 -- To believe: from a curve and an asked value to the place that the check accepts, in the order of docs/SCOPE.md: the start points of
 -- r3/region3_pair_ext.rs, the search, the proposal's range, the check. Assumes nothing: these are definitions.
-use Prim.Native.Nat.{ℕ}
 use mathlib.Core.Bool.{Bool, cond}
 use lib.Ieee.{Float}
 use Rattle.common.specs.Outcome.{Outcome, value, refused, then}
