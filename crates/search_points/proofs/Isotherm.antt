@@ -19,7 +19,7 @@ use Rattle.tables_h_m.specs.Printed.{table3h, table3i, table3j, table3k, table3
 use Rattle.tables_n_t.specs.Printed.{table3n, table3o, table3p, table3q, table3r, table3s, table3t}
 use Rattle.tables_u_z.specs.Printed.{table3u, table3v, table3w, table3x, table3y, table3z}
 use Rattle.r4.specs.Saturation.{p-saturation, T-saturation}
-use Rattle.boundary.specs.Boundary.{walkRule, rowAt, table, straight3ef}
+use Rattle.boundaries.specs.Boundary.{walkRule, rowAt, table, straight3ef}
 use Rattle.boundary.specs.Choice.{letterAt, abRule, cdefRule, chijkRule, clmnopjkRule, nearRule, cq-rkRule, csrkRule, cstRule, ctRule, limit}
 use Rattle.volume.specs.Equation.{volumeAt, volumeBy}
 use Rattle.volume.specs.Volumes.{originAt, volumeFrom, pT2v-at}

@@ -16,55 +16,39 @@ fn send(fd: i32, lines: &[u8], to: usize) -> bool
     stdio::send(b"letters: writing", fd, &lines[..to])
 }
 
-fn send_page(
-    bytes: &[u8],
-    done: u64,
-    ps: &mut [f64; 512],
-    ts: &mut [f64; 512],
-    lines: &mut [u8; 16384],
-) -> bool {
-    let to = rows::page(bytes, done, ps, ts, lines);
+fn send_page(bytes: &[u8], done: u64, lines: &mut [u8; 16384]) -> bool {
+    let to = rows::page(bytes, done, lines);
     send(STDOUT_FILENO, lines, to)
 }
 
-// The lines of the first `have` bytes, and the last line on the descriptor fd.
-fn send_end(
-    fd: i32,
-    bytes: &[u8],
-    have: usize,
-    done: u64,
-    ps: &mut [f64; 512],
-    ts: &mut [f64; 512],
-    lines: &mut [u8; 16384],
-)
+// Where the last line goes.
+fn end_of(stop: Stop) -> i32 {
+    match stop {
+        Stop::Failed => STDERR_FILENO,
+        _ => STDOUT_FILENO,
+    }
+}
+
+// The lines of the first `have` bytes, and the last line.
+fn send_end(stop: Stop, bytes: &[u8], have: usize, done: u64, lines: &mut [u8; 16384])
     requires { ⌜ have ≤ length (now bytes) ⌝ }
 {
     let last = &bytes[..have];
-    if send_page(last, done, ps, ts, lines) {
+    if send_page(last, done, lines) {
         let to = rows::last_line(last, done, lines);
-        send(fd, lines, to);
+        send(end_of(stop), lines, to);
     }
 }
 
 // One turn: up to 512 rows, and after the last of them the last line. Answers whether to go on.
-fn turn(
-    bytes: &mut [u8; 8192],
-    ps: &mut [f64; 512],
-    ts: &mut [f64; 512],
-    lines: &mut [u8; 16384],
-    done: u64,
-) -> bool {
+fn turn(bytes: &mut [u8; 8192], lines: &mut [u8; 16384], done: u64) -> bool {
     let reading = stdio::read_until_full(b"letters: standard input", bytes);
     let have = reading.have;
     let stop = reading.stop;
     match stop {
-        Stop::Full => send_page(bytes, done, ps, ts, lines),
-        Stop::Ended => {
-            send_end(STDOUT_FILENO, bytes, have, done, ps, ts, lines);
-            false
-        }
-        Stop::Failed => {
-            send_end(STDERR_FILENO, bytes, have, done, ps, ts, lines);
+        Stop::Full => send_page(bytes, done, lines),
+        _ => {
+            send_end(stop, bytes, have, done, lines);
             false
         }
     }
@@ -76,10 +60,10 @@ fn too_many() {
 }
 
 // The buffers are filled again at each turn.
-fn run(bytes: &mut [u8; 8192], ps: &mut [f64; 512], ts: &mut [f64; 512], lines: &mut [u8; 16384]) {
+fn run(bytes: &mut [u8; 8192], lines: &mut [u8; 16384]) {
     let mut done: u64 = 0;
     while done < MOST {
-        if !turn(bytes, ps, ts, lines, done) {
+        if !turn(bytes, lines, done) {
             return;
         }
         done += 512;
@@ -94,8 +78,6 @@ pub fn letters() {
         return;
     }
     let mut bytes = [0u8; 8192];
-    let mut ps = [0.0; 512];
-    let mut ts = [0.0; 512];
     let mut lines = [0u8; 16384];
-    run(&mut bytes, &mut ps, &mut ts, &mut lines);
+    run(&mut bytes, &mut lines);
 }

@@ -1,4 +1,4 @@
--- `stream::send` meets its contract. Assumes nothing.
+-- `stream::send` meets its contract: the first bytes are as many as it is told. Assumes nothing.
 use mathlib.Core.Path.{sym}
 use lib.Seq.{length-take-le}
 use borrow.Author.Needs.{needs}

@@ -1,4 +1,4 @@
--- `stream::send_end` meets its contract. Assumes nothing.
+-- `stream::send_end` meets its contract: the first bytes are as many as it is told. Assumes nothing.
 use mathlib.Core.Path.{sym}
 use lib.Seq.{length-take-le}
 use borrow.Author.Needs.{needs}
@@ -13,8 +13,4 @@ send-end-spec =
     tie.close
     (tie.spec
     slice-aggregate-last
-    (λ c κs. search needs)
-    (λ c κs. search needs)
-    (λ c κs. search needs)
-    (λ c. search needs)
-    (λ c. search needs))
+    (λ c κs. search needs) (λ c κs. search needs) (λ c κs. search needs) (λ c κs. search needs) (λ c. search needs) (λ c. search needs))
