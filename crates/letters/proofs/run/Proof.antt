@@ -1,8 +1,8 @@
--- `stream::run` meets its contract. The measure is how many rows still have numbers. Assumes nothing.
+-- `letters::run` meets its contract. The measure is how many rows still have numbers. Assumes nothing.
 use Prim.Native.Nat.{_-_}
 use borrow.Author.Needs.{needs}
-use Rattle.stream.proofs.run.Statement.{statement}
-use Rattle.stream.proofs.run.Tie as tie
+use Rattle.letters.proofs.run.Statement.{statement}
+use Rattle.letters.proofs.run.Tie as tie
 
 abbrev Inv-loop : tie.InvT-loop
 Inv-loop bytes₀ lines₀ done₀ bytes lines done = Unit

@@ -1,9 +1,9 @@
--- `stream::send_end` meets its contract: the first bytes are as many as it is told. Assumes nothing.
+-- `letters::send_end` meets its contract: the first bytes are as many as it is told. Assumes nothing.
 use mathlib.Core.Path.{sym}
 use lib.Seq.{length-take-le}
 use borrow.Author.Needs.{needs}
-use Rattle.stream.proofs.send_end.Statement.{statement}
-use Rattle.stream.proofs.send_end.Tie as tie
+use Rattle.letters.proofs.send_end.Statement.{statement}
+use Rattle.letters.proofs.send_end.Tie as tie
 
 slice-aggregate-last : tie.Need-slice-aggregate-last
 slice-aggregate-last c = let s = c .before .before in sym (length-take-le (s .args .have) (s .args .bytes .now) (s .pre))

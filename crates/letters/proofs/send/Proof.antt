@@ -1,9 +1,9 @@
--- `stream::send` meets its contract: the first bytes are as many as it is told. Assumes nothing.
+-- `letters::send` meets its contract: the first bytes are as many as it is told. Assumes nothing.
 use mathlib.Core.Path.{sym}
 use lib.Seq.{length-take-le}
 use borrow.Author.Needs.{needs}
-use Rattle.stream.proofs.send.Statement.{statement}
-use Rattle.stream.proofs.send.Tie as tie
+use Rattle.letters.proofs.send.Statement.{statement}
+use Rattle.letters.proofs.send.Tie as tie
 
 slice-aggregate-send-2 : tie.Need-slice-aggregate-send-2
 slice-aggregate-send-2 c = let s = c .before .before .before in sym (length-take-le (s .args .to) (s .args .lines .now) (s .pre))
