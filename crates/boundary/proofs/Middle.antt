@@ -11,7 +11,7 @@ use borrow.Author.Tests.{ltb-false, leb-true, le-leb}
 use Rattle.sizes.proofs.Band.{Band}
 use Rattle.rules.specs.Power.{one}
 use Rattle.rules.proofs.Usual.{power-band}
-use Rattle.boundary.specs.Raw.{Bare}
+use Rattle.boundaries.specs.Raw.{Bare}
 
 abbrev top : Float
 top = fin false 1 (pos 7)

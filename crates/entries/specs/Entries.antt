@@ -10,9 +10,9 @@ use Rattle.rules.specs.Log.{logarithmRule}
 use Rattle.rules.specs.Exp.{exponentialRule}
 use Rattle.r4.specs.Saturation as r4
 use Rattle.border.specs.Border as border
-use Rattle.boundary.specs.declared.Boundary.{Boundary}
-use Rattle.boundary.specs.declared.Boundary.the-variants.{Ab, Cd, Ef, Gh, Ij, Jk, Mn, Op, Qu, Rx, Uv, Wx}
-use Rattle.boundary.specs.Boundary.{boundaryRule}
+use Rattle.boundaries.specs.declared.Boundary.{Boundary}
+use Rattle.boundaries.specs.declared.Boundary.the-variants.{Ab, Cd, Ef, Gh, Ij, Jk, Mn, Op, Qu, Rx, Uv, Wx}
+use Rattle.boundaries.specs.Boundary.{boundaryRule}
 use Rattle.boundary.specs.Choice.{letterRule}
 use Rattle.subregion.specs.Letter.{ofByte}
 use Rattle.volume.specs.declared.Phase.the-variants.{Liquid, Steam}

@@ -1,4 +1,4 @@
--- `boundary::letter_by::by_chijk` meets its contract. Assumes nothing.
+-- `choosers::letter_by::by_chijk` meets its contract: letter after letter. Assumes nothing.
 use borrow.Author.Needs.{needs}
 use Rattle.choosers.proofs.letter_by.by_chijk.Statement.{statement}
 use Rattle.choosers.proofs.letter_by.by_chijk.Tie as tie
@@ -7,12 +7,4 @@ returns : tie.Need-returns
 returns c = rw (c .upto5 .ensures, c .before .upto4 .ensures, c .before .before .upto3 .ensures, c .before .before .before .upto2 .ensures, c .before .before .before .before .upto .ensures)
 
 pub by-chijk-spec : {M : Type 1} → statement M
-by-chijk-spec =
-    tie.close
-    (tie.spec
-    (λ c κs. search needs)
-    (λ c κs. search needs)
-    (λ c κs. search needs)
-    (λ c κs. search needs)
-    (λ c κs. search needs)
-    returns)
+by-chijk-spec = tie.close (tie.spec (λ c κs. search needs) (λ c κs. search needs) (λ c κs. search needs) (λ c κs. search needs) (λ c κs. search needs) returns)
