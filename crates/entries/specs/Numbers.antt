@@ -1,24 +1,36 @@
--- To believe: which number names which entry.
-use Prim.Native.Nat.{ℕ}
+-- To believe: which number names which entry, by its tens.
+use Prim.Native.Nat.{ℕ, _-_}
+use mathlib.Core.Bool.{cond}
 use mathlib.Core.List.{List, [], _∷_}
+use lib.Dec.{ltb}
 use lib.ListN.{getD}
 use Rattle.entries.specs.declared.Entry.{Entry}
-use Rattle.entries.specs.declared.Entry.the-variants.{Unnamed, FromOne, ByNumber, FromTwo, OfRecord, OfSearch, OfFound, Letter, ColumnRow, CpW}
-use Rattle.entries.specs.declared.FromOne.the-variants.{Power, Root, Logarithm, Exponential, PSaturation, TSaturation, BorderT, BorderP}
-use Rattle.entries.specs.declared.FromTwo.the-variants.{Volume, PhT, PhV, PsT, PsV, HsP, Property}
-use Rattle.entries.specs.declared.ByNumber.the-variants.{Boundary, LetterVolume, PhaseVolume}
-use Rattle.entries.specs.declared.OfRecord.the-variants.{TdRecord, PtRecord, PhRecord, PsRecord, HsRecord}
-use Rattle.entries.specs.declared.OfSearch.the-variants.{PvRecord, ThRecord, TsRecord}
-use Rattle.entries.specs.declared.OfFound.the-variants.{PvT, ThD, TsD}
+use Rattle.entries.specs.declared.Entry.the-variants as entry
+use Rattle.entries.specs.declared.Ones.{Ones}
+use Rattle.entries.specs.declared.Ones.the-variants as one
+use Rattle.entries.specs.declared.Tens.{Tens}
+use Rattle.entries.specs.declared.Tens.the-variants as ten
+use Rattle.entries.specs.declared.Twenties.{Twenties}
+use Rattle.entries.specs.declared.Twenties.the-variants as twenty
+use Rattle.entries.specs.declared.Thirties.{Thirties}
+use Rattle.entries.specs.declared.Thirties.the-variants as thirty
 
--- from 0 on
-abbrev pub numbered : List Entry
-numbered =
-    Unnamed ∷ FromOne Power ∷ FromOne Root ∷ FromOne Logarithm ∷ FromOne Exponential ∷ FromOne PSaturation ∷ FromOne TSaturation ∷ ByNumber Boundary ∷ Letter ∷ ByNumber LetterVolume
-    ∷ FromTwo Volume ∷ ByNumber PhaseVolume ∷ FromTwo PhT ∷ FromTwo PhV ∷ FromTwo PsT ∷ FromTwo PsV ∷ FromTwo HsP ∷ Unnamed ∷ FromOne BorderT ∷ FromOne BorderP
-    ∷ OfRecord TdRecord ∷ OfRecord PtRecord ∷ OfRecord PhRecord ∷ OfRecord PsRecord ∷ OfRecord HsRecord ∷ FromTwo Property ∷ OfSearch PvRecord ∷ OfSearch ThRecord ∷ OfSearch TsRecord ∷ Unnamed
-    ∷ ColumnRow ∷ Unnamed ∷ Unnamed ∷ Unnamed ∷ CpW ∷ OfFound PvT ∷ OfFound ThD ∷ OfFound TsD ∷ []
+abbrev pub ones : List Ones
+ones = one.Unnamed ∷ one.Power ∷ one.Root ∷ one.Logarithm ∷ one.Exponential ∷ one.PSaturation ∷ one.TSaturation ∷ one.Boundary ∷ one.Letter ∷ one.LetterVolume ∷ []
 
--- past the list there is none
+abbrev pub tens : List Tens
+tens = ten.Volume ∷ ten.PhaseVolume ∷ ten.PhT ∷ ten.PhV ∷ ten.PsT ∷ ten.PsV ∷ ten.HsP ∷ ten.Unnamed ∷ ten.BorderT ∷ ten.BorderP ∷ []
+
+abbrev pub twenties : List Twenties
+twenties = twenty.TdRecord ∷ twenty.PtRecord ∷ twenty.PhRecord ∷ twenty.PsRecord ∷ twenty.HsRecord ∷ twenty.Property ∷ twenty.PvRecord ∷ twenty.ThRecord ∷ twenty.TsRecord ∷ twenty.Unnamed ∷ []
+
+abbrev pub thirties : List Thirties
+thirties = thirty.ColumnRow ∷ thirty.Unnamed ∷ thirty.Unnamed ∷ thirty.Unnamed ∷ thirty.CpW ∷ thirty.PvT ∷ thirty.ThD ∷ thirty.TsD ∷ []
+
+-- past the lists there is none
 unfoldable pub entryOf : ℕ → Entry
-entryOf k = getD numbered k Unnamed
+entryOf k =
+    cond (ltb k 10) (entry.Ones (getD ones k one.Unnamed))
+    (cond (ltb k 20) (entry.Tens (getD tens (k - 10) ten.Unnamed))
+    (cond (ltb k 30) (entry.Twenties (getD twenties (k - 20) twenty.Unnamed))
+    (cond (ltb k 38) (entry.Thirties (getD thirties (k - 30) thirty.Unnamed)) entry.Unnamed)))

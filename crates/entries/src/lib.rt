@@ -9,68 +9,62 @@ pub use call::answer;
 pub use numbers::entry_of;
 pub use page::answer_rows;
 
-// The entry points by what they answer. Unnamed stands for a number that names none.
+// The entry points by the tens of their numbers, each ten a kind. Unnamed stands for a number that names none.
 pub enum Entry {
     Unnamed,
-    FromOne(FromOne),
-    ByNumber(ByNumber),
-    FromTwo(FromTwo),
-    OfRecord(OfRecord),
-    OfSearch(OfSearch),
-    OfFound(OfFound),
-    Letter,
-    ColumnRow,
-    CpW,
+    Ones(Ones),
+    Tens(Tens),
+    Twenties(Twenties),
+    Thirties(Thirties),
 }
 
-// A number from one argument.
-pub enum FromOne {
+// The written rules, the saturation line, a boundary, the letter, a letter's volume.
+pub enum Ones {
+    Unnamed,
     Power,
     Root,
     Logarithm,
     Exponential,
     PSaturation,
     TSaturation,
-    BorderT,
-    BorderP,
+    Boundary,
+    Letter,
+    LetterVolume,
 }
 
-// A number from two arguments.
-pub enum FromTwo {
+// Volumes, the backward equations, the border with region 2.
+pub enum Tens {
+    Unnamed,
     Volume,
+    PhaseVolume,
     PhT,
     PhV,
     PsT,
     PsV,
     HsP,
-    Property,
+    BorderT,
+    BorderP,
 }
 
-// A number by an equation that the whole number names.
-pub enum ByNumber {
-    Boundary,
-    LetterVolume,
-    PhaseVolume,
-}
-
-// A record.
-pub enum OfRecord {
+// Records, and a property.
+pub enum Twenties {
+    Unnamed,
     TdRecord,
     PtRecord,
     PhRecord,
     PsRecord,
     HsRecord,
-}
-
-// A record whose state is searched.
-pub enum OfSearch {
+    Property,
     PvRecord,
     ThRecord,
     TsRecord,
 }
 
-// A T or d that is searched.
-pub enum OfFound {
+// A row of the column run, cp and w together, what a search finds.
+pub enum Thirties {
+    Unnamed,
+    ColumnRow,
+    CpW,
     PvT,
     ThD,
     TsD,
