@@ -107,16 +107,19 @@ fn ones(entry: Ones, n: i32, a: f64, b: f64) -> Reply
 fn tens(entry: Tens, n: i32, a: f64, b: f64) -> Reply
     ensures { λ r. ⌜ r ≡ tensRule entry n a b ⌝ }
 {
+    let p = MPa(a);
+    let h = KJPerKg(b);
+    let s = KJPerKgK(b);
     match entry {
-        Tens::Volume => number_reply(pT2v_reg3(MPa(a), Kelvin(b))),
+        Tens::Volume => number_reply(pT2v_reg3(p, Kelvin(b))),
         Tens::PhaseVolume => by_phase(n, a, b),
-        Tens::PhT => number_reply(backward::ph2T_reg3(MPa(a), KJPerKg(b))),
-        Tens::PhV => number_reply(backward::ph2v_reg3(MPa(a), KJPerKg(b))),
-        Tens::PsT => number_reply(backward::ps2T_reg3(MPa(a), KJPerKgK(b))),
-        Tens::PsV => number_reply(backward::ps2v_reg3(MPa(a), KJPerKgK(b))),
-        Tens::HsP => number_reply(backward::hs2p_reg3(KJPerKg(a), KJPerKgK(b))),
+        Tens::PhT => number_reply(backward::ph2T_reg3(p, h)),
+        Tens::PhV => number_reply(backward::ph2v_reg3(p, h)),
+        Tens::PsT => number_reply(backward::ps2T_reg3(p, s)),
+        Tens::PsV => number_reply(backward::ps2v_reg3(p, s)),
+        Tens::HsP => number_reply(backward::hs2p_reg3(KJPerKg(a), s)),
         Tens::Unnamed => refused(UNKNOWN),
-        Tens::BorderT => number_reply(border::B23_p2T(MPa(a))),
+        Tens::BorderT => number_reply(border::B23_p2T(p)),
         Tens::BorderP => number_reply(border::B23_T2p(Kelvin(a))),
     }
 }
@@ -124,16 +127,22 @@ fn tens(entry: Tens, n: i32, a: f64, b: f64) -> Reply
 fn twenties(entry: Twenties, n: i32, a: f64, b: f64) -> Reply
     ensures { λ r. ⌜ r ≡ twentiesRule entry n a b ⌝ }
 {
+    let given = blank();
+    let p = MPa(a);
+    let t = Kelvin(a);
+    let d = KgPerM3(b);
+    let h = KJPerKg(b);
+    let s = KJPerKgK(b);
     match entry {
-        Twenties::TdRecord => record_reply(td_record::Td_reg3(blank(), Kelvin(a), KgPerM3(b))),
-        Twenties::PtRecord => record_reply(region3::pT_reg3(blank(), MPa(a), Kelvin(b))),
-        Twenties::PhRecord => record_reply(region3::ph_reg3(blank(), MPa(a), KJPerKg(b))),
-        Twenties::PsRecord => record_reply(region3::ps_reg3(blank(), MPa(a), KJPerKgK(b))),
-        Twenties::HsRecord => record_reply(region3::hs_reg3(blank(), KJPerKg(a), KJPerKgK(b))),
-        Twenties::Property => number_reply(by_number::Td_thermal_reg3(Kelvin(a), KgPerM3(b), n)),
-        Twenties::PvRecord => searched_reply(search::pv_reg3(blank(), MPa(a), M3PerKg(b))),
-        Twenties::ThRecord => searched_reply(search::Th_reg3(blank(), Kelvin(a), KJPerKg(b))),
-        Twenties::TsRecord => searched_reply(search::Ts_reg3(blank(), Kelvin(a), KJPerKgK(b))),
+        Twenties::TdRecord => record_reply(td_record::Td_reg3(given, t, d)),
+        Twenties::PtRecord => record_reply(region3::pT_reg3(given, p, Kelvin(b))),
+        Twenties::PhRecord => record_reply(region3::ph_reg3(given, p, h)),
+        Twenties::PsRecord => record_reply(region3::ps_reg3(given, p, s)),
+        Twenties::HsRecord => record_reply(region3::hs_reg3(given, KJPerKg(a), s)),
+        Twenties::Property => number_reply(by_number::Td_thermal_reg3(t, d, n)),
+        Twenties::PvRecord => searched_reply(search::pv_reg3(given, p, M3PerKg(b))),
+        Twenties::ThRecord => searched_reply(search::Th_reg3(given, t, h)),
+        Twenties::TsRecord => searched_reply(search::Ts_reg3(given, t, s)),
         Twenties::Unnamed => refused(UNKNOWN),
     }
 }
@@ -141,13 +150,14 @@ fn twenties(entry: Twenties, n: i32, a: f64, b: f64) -> Reply
 fn thirties(entry: Thirties, n: i32, a: f64, b: f64) -> Reply
     ensures { λ r. ⌜ r ≡ thirtiesRule entry n a b ⌝ }
 {
+    let t = Kelvin(a);
     match entry {
         Thirties::ColumnRow => row_reply(column_run::row(MPa(a), Kelvin(b))),
         Thirties::Unnamed => refused(UNKNOWN),
-        Thirties::CpW => cp_w_reply(by_number::Td2cp_w_reg3(Kelvin(a), KgPerM3(b))),
+        Thirties::CpW => cp_w_reply(by_number::Td2cp_w_reg3(t, KgPerM3(b))),
         Thirties::PvT => found_reply(search::pv2T_reg3(MPa(a), M3PerKg(b))),
-        Thirties::ThD => found_reply(search::Th2d_reg3(Kelvin(a), KJPerKg(b))),
-        Thirties::TsD => found_reply(search::Ts2d_reg3(Kelvin(a), KJPerKgK(b))),
+        Thirties::ThD => found_reply(search::Th2d_reg3(t, KJPerKg(b))),
+        Thirties::TsD => found_reply(search::Ts2d_reg3(t, KJPerKgK(b))),
     }
 }
 
