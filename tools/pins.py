@@ -141,7 +141,7 @@ use Rattle.printed.specs.Backward.{BACKWARD}
 use Rattle.printed.specs.Table30.{n1, table30}
 """,
     "boundaries": """use Rattle.common.proofs.Pin.{mix, shifted, mixFloat, pinFrom}
-use Rattle.boundaries.specs.Boundary.{Term, term, Argument, inP, inLn, Row, row, NAMES}
+use Rattle.boundaries.specs.Boundary.{Term, term, Argument, inP, inLn, Row, row, table}
 
 abbrev mixTerm : ℕ → Term → ℕ
 mixTerm h (term i n) = mixFloat (mix h (shifted i)) n

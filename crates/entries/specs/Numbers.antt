@@ -1,18 +1,36 @@
--- To believe: which number names which entry.
-use Prim.Native.Nat.{ℕ}
+-- To believe: which number names which entry, by its tens.
+use Prim.Native.Nat.{ℕ, _-_}
+use mathlib.Core.Bool.{cond}
 use mathlib.Core.List.{List, [], _∷_}
+use lib.Dec.{ltb}
 use lib.ListN.{getD}
 use Rattle.entries.specs.declared.Entry.{Entry}
-use Rattle.entries.specs.declared.Entry.the-variants.{Unnamed, Power, Root, Logarithm, Exponential, PSaturation, TSaturation, Boundary, Letter, LetterVolume, Volume, PhaseVolume, PhT, PhV, PsT, PsV, HsP, BorderT, BorderP, TdRecord, PtRecord, PhRecord, PsRecord, HsRecord, Property, PvRecord, ThRecord, TsRecord, ColumnRow, CpW, PvT, ThD, TsD}
+use Rattle.entries.specs.declared.Entry.the-variants as entry
+use Rattle.entries.specs.declared.Ones.{Ones}
+use Rattle.entries.specs.declared.Ones.the-variants as one
+use Rattle.entries.specs.declared.Tens.{Tens}
+use Rattle.entries.specs.declared.Tens.the-variants as ten
+use Rattle.entries.specs.declared.Twenties.{Twenties}
+use Rattle.entries.specs.declared.Twenties.the-variants as twenty
+use Rattle.entries.specs.declared.Thirties.{Thirties}
+use Rattle.entries.specs.declared.Thirties.the-variants as thirty
 
--- from 0 on
-abbrev pub numbered : List Entry
-numbered =
-    Unnamed ∷ Power ∷ Root ∷ Logarithm ∷ Exponential ∷ PSaturation ∷ TSaturation ∷ Boundary ∷ Letter ∷ LetterVolume
-    ∷ Volume ∷ PhaseVolume ∷ PhT ∷ PhV ∷ PsT ∷ PsV ∷ HsP ∷ Unnamed ∷ BorderT ∷ BorderP
-    ∷ TdRecord ∷ PtRecord ∷ PhRecord ∷ PsRecord ∷ HsRecord ∷ Property ∷ PvRecord ∷ ThRecord ∷ TsRecord ∷ Unnamed
-    ∷ ColumnRow ∷ Unnamed ∷ Unnamed ∷ Unnamed ∷ CpW ∷ PvT ∷ ThD ∷ TsD ∷ []
+abbrev pub ones : List Ones
+ones = one.Unnamed ∷ one.Power ∷ one.Root ∷ one.Logarithm ∷ one.Exponential ∷ one.PSaturation ∷ one.TSaturation ∷ one.Boundary ∷ one.Letter ∷ one.LetterVolume ∷ []
 
--- past the list there is none
+abbrev pub tens : List Tens
+tens = ten.Volume ∷ ten.PhaseVolume ∷ ten.PhT ∷ ten.PhV ∷ ten.PsT ∷ ten.PsV ∷ ten.HsP ∷ ten.Unnamed ∷ ten.BorderT ∷ ten.BorderP ∷ []
+
+abbrev pub twenties : List Twenties
+twenties = twenty.TdRecord ∷ twenty.PtRecord ∷ twenty.PhRecord ∷ twenty.PsRecord ∷ twenty.HsRecord ∷ twenty.Property ∷ twenty.PvRecord ∷ twenty.ThRecord ∷ twenty.TsRecord ∷ twenty.Unnamed ∷ []
+
+abbrev pub thirties : List Thirties
+thirties = thirty.ColumnRow ∷ thirty.Unnamed ∷ thirty.Unnamed ∷ thirty.Unnamed ∷ thirty.CpW ∷ thirty.PvT ∷ thirty.ThD ∷ thirty.TsD ∷ []
+
+-- past the lists there is none
 unfoldable pub entryOf : ℕ → Entry
-entryOf k = getD numbered k Unnamed
+entryOf k =
+    cond (ltb k 10) (entry.Ones (getD ones k one.Unnamed))
+    (cond (ltb k 20) (entry.Tens (getD tens (k - 10) ten.Unnamed))
+    (cond (ltb k 30) (entry.Twenties (getD twenties (k - 20) twenty.Unnamed))
+    (cond (ltb k 38) (entry.Thirties (getD thirties (k - 30) thirty.Unnamed)) entry.Unnamed)))

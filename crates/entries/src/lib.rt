@@ -1,5 +1,5 @@
-// The entry points by number, for the programs that run them over rows of bytes: which number names which entry (`numbers`), what each
-// answers (`answer`), what a reply needs beside its shapes (`shape`), rows of bytes answered and stored records compared (`page`).
+// The entry points by number, for the program that runs them over rows of bytes: which number names which entry (`numbers`), what each
+// answers (`call`), what a reply needs beside its shapes (`shape`), rows of bytes answered (`page`).
 mod call;
 mod numbers;
 mod page;
@@ -7,11 +7,19 @@ mod shape;
 
 pub use call::answer;
 pub use numbers::entry_of;
-pub use page::agrees;
 pub use page::answer_rows;
 
-// The entry points, in the order of their numbers. Unnamed stands for a number that names none.
+// The entry points by the tens of their numbers, each ten a kind. Unnamed stands for a number that names none.
 pub enum Entry {
+    Unnamed,
+    Ones(Ones),
+    Tens(Tens),
+    Twenties(Twenties),
+    Thirties(Thirties),
+}
+
+// The written rules, the saturation line, a boundary, the letter, a letter's volume.
+pub enum Ones {
     Unnamed,
     Power,
     Root,
@@ -22,6 +30,11 @@ pub enum Entry {
     Boundary,
     Letter,
     LetterVolume,
+}
+
+// Volumes, the backward equations, the border with region 2.
+pub enum Tens {
+    Unnamed,
     Volume,
     PhaseVolume,
     PhT,
@@ -31,6 +44,11 @@ pub enum Entry {
     HsP,
     BorderT,
     BorderP,
+}
+
+// Records, and a property.
+pub enum Twenties {
+    Unnamed,
     TdRecord,
     PtRecord,
     PhRecord,
@@ -40,6 +58,11 @@ pub enum Entry {
     PvRecord,
     ThRecord,
     TsRecord,
+}
+
+// A row of the column run, cp and w together, what a search finds.
+pub enum Thirties {
+    Unnamed,
     ColumnRow,
     CpW,
     PvT,

@@ -1,19 +1,19 @@
--- `entries::numbers::entry_of` meets its contract: the array is the definition's list, and past its end there is none.
-use mathlib.Core.Path.{refl, sym}
-use lib.ListN.{List·getD-eq-default}
+-- `entries::numbers::entry_of` meets its contract: each branch is a side of the definition's tests.
+use mathlib.Core.Path.{ap}
 use borrow.Author.Needs.{needs}
-use Rattle.entries.specs.declared.Entry.the-variants.{Unnamed}
-use Rattle.entries.specs.Numbers.{numbered, entryOf}
+use borrow.Author.Tests.{lt-ltb, le-ltb}
+use Rattle.entries.specs.declared.Entry.the-variants.{Ones, Tens, Twenties, Thirties}
+use Rattle.entries.specs.Numbers.{entryOf}
 use Rattle.entries.proofs.numbers.entry_of.Statement.{statement}
 use Rattle.entries.proofs.numbers.entry_of.Tie as tie
 
-returns : tie.Need-returns
-unfolding entryOf
-returns c = refl
-
-returns-2 : tie.Need-returns-2
-unfolding entryOf
-returns-2 c = sym (List·getD-eq-default numbered Unnamed (c .if1 .left))
-
 pub entry-of-spec : {M : Type 1} → statement M
-entry-of-spec = tie.close (tie.spec (λ c. search needs) returns returns-2)
+unfolding entryOf
+entry-of-spec =
+    tie.close
+    (tie.spec
+    (λ c κs. search needs) (λ c. rw (lt-ltb _ _ (c .before .if1 .taken)) (ap Ones (c .ones-of .ensures)))
+    (λ c κs. search needs) (λ c. rw (le-ltb _ _ (c .before .before .if1 .left), lt-ltb _ _ (c .before .if2 .taken)) (ap Tens (c .tens-of .ensures)))
+    (λ c κs. search needs) (λ c. rw (le-ltb _ _ (c .before .before .before .if1 .left), le-ltb _ _ (c .before .before .if2 .left), lt-ltb _ _ (c .before .if3 .taken)) (ap Twenties (c .twenties-of .ensures)))
+    (λ c κs. search needs) (λ c. rw (le-ltb _ _ (c .before .before .before .before .if1 .left), le-ltb _ _ (c .before .before .before .if2 .left), le-ltb _ _ (c .before .before .if3 .left), lt-ltb _ _ (c .before .if4 .taken)) (ap Thirties (c .thirties-of .ensures)))
+    (λ c. rw (le-ltb _ _ (c .before .before .before .if1 .left), le-ltb _ _ (c .before .before .if2 .left), le-ltb _ _ (c .before .if3 .left), le-ltb _ _ (c .if4 .left))))

@@ -3,7 +3,8 @@ use mathlib.Core.Path.{sym, ap, _∙_}
 use lib.Ieee.{ofBits}
 use Rattle.polynomial.specs.Columns.{paperPair}
 use Rattle.polynomial.specs.declared.PairAnswer.{PairAnswer}
-use Rattle.sum_rows.specs.Shape.{refusedBy, twoReply}
+use Rattle.reply.specs.Shape.{refusedBy}
+use Rattle.sum_rows.specs.Shape.{twoReply}
 use borrow.Author.Needs.{needs}
 use Rattle.sum_rows.proofs.shape.two_numbers.Statement.{statement}
 use Rattle.sum_rows.proofs.shape.two_numbers.Tie as tie
