@@ -7,7 +7,8 @@ use native.Mathlib.Nat.{add-zero, add-suc, add-assoc}
 use native.Mathlib.Omega.{arith}
 use lib.ListN.{length, drop, length-append, List·getD-append}
 use lib.Seq.{getD-drop, drop-at}
-use Rattle.rows.specs.Lines.{pAt, tAt, choiceAt, lineOf, blockOf, rowsIn, lastLine, outputOf, turnsOf, Full}
+use Rattle.boundary.specs.Choice.{letterRule}
+use Rattle.rows.specs.Lines.{pAt, tAt, lineOf, blockOf, rowsIn, lastLine, outputOf, turnsOf, Full}
 use Rattle.buffer.specs.Bytes.{joined, halfAt, floatAt}
 use Rattle.rows.proofs.Laws.{joined-same}
 
@@ -42,8 +43,8 @@ float-front a b i h = rw (half-front a b i (omega arith), half-front a b (i + 4)
 block-cut : (done : ℕ) (s : List ℕ) (m n : ℕ) → blockOf done s (m + n) ≡ blockOf done s m ++ blockOf (done + m) (drop (16 * m) s) n
 unfolding blockOf
 block-cut done s m n =
-    joined-cut (λ i. lineOf (done + i + 1) (choiceAt s i)) m n
-    ∙ ap (λ (xs : List ℕ). joined (λ i. lineOf (done + i + 1) (choiceAt s i)) m ++ xs)
+    joined-cut (λ i. lineOf (done + i + 1) (letterRule (pAt s i) (tAt s i))) m n
+    ∙ ap (λ (xs : List ℕ). joined (λ i. lineOf (done + i + 1) (letterRule (pAt s i) (tAt s i))) m ++ xs)
     (joined-same _ _ n
     (λ i l.
     let p : pAt s (m + i) ≡ pAt (drop (16 * m) s) i = ap (floatAt s) (omega arith) ∙ sym (float-drop (16 * m) s (16 * i)) in

@@ -3,8 +3,8 @@ use Prim.Native.Nat.{ℕ, _+_, _*_, _-_, _/_, _%_, _^_, min}
 use Prim.Native.Char.{code}
 use mathlib.Core.List.{List, [], _∷_, _++_}
 use mathlib.Core.Path.{_≡_}
-use lib.ListN.{length}
-use lib.Ieee.{Float}
+use lib.ListN.{length, getD}
+use lib.Ieee.{Float, nan}
 use Rattle.common.specs.Outcome.{Outcome, value, refused, numberIn}
 use Rattle.subregion.specs.declared.Letter.{Letter}
 use Rattle.subregion.specs.Letter.{asciiOf}
@@ -19,9 +19,12 @@ pAt s i = floatAt s (16 * i)
 abbrev pub tAt : List ℕ → ℕ → Float
 tAt s i = floatAt s (16 * i + 8)
 
--- the choice of row i
-abbrev pub choiceAt : List ℕ → ℕ → Outcome Letter
-choiceAt s i = letterRule (pAt s i) (tAt s i)
+-- the columns of the first n rows
+abbrev pub pColumn : List ℕ → ℕ → List Float
+pColumn s n = joined (λ i. pAt s i ∷ []) n
+
+abbrev pub tColumn : List ℕ → ℕ → List Float
+tColumn s n = joined (λ i. tAt s i ∷ []) n
 
 -- the letter or '-'
 abbrev pub markIn : Outcome Letter → ℕ
@@ -32,9 +35,13 @@ markIn (refused k) = code "-"
 unfoldable pub lineOf : ℕ → Outcome Letter → List ℕ
 lineOf n o = decimal n ++ ((code " " ∷ markIn o ∷ bytesOf " ") ++ (decimal (numberIn o) ++ bytesOf "\n"))
 
--- the lines of the first n rows, after `done` rows
+-- the lines of the first n rows of two columns, after `done` rows
+unfoldable pub linesOf : ℕ → List Float → List Float → ℕ → List ℕ
+linesOf done p t n = joined (λ i. lineOf (done + i + 1) (letterRule (getD p i nan) (getD t i nan))) n
+
+-- the same of the bytes themselves
 unfoldable pub blockOf : ℕ → List ℕ → ℕ → List ℕ
-blockOf done s n = joined (λ i. lineOf (done + i + 1) (choiceAt s i)) n
+blockOf done s n = joined (λ i. lineOf (done + i + 1) (letterRule (pAt s i) (tAt s i))) n
 
 -- how many rows a page of n bytes works after `done` rows: whole ones, 512 at most, whose numbers are below 2^64
 abbrev pub rowsIn : ℕ → ℕ → ℕ

@@ -1,6 +1,5 @@
-// From bytes to lines. Each function that writes does so from an index on and answers the next.
+// From choices to lines. Each function writes from an index on and answers the next.
 use boundary::sub_region3_pT;
-use buffer::float_at;
 use common::Kelvin;
 use common::MPa;
 use subregion::LetterAnswer;
@@ -14,7 +13,7 @@ ghost use Prim.Native.Nat.{_+_, _*_, _≤_, _<_, _^_};
 ghost use lib.ListN.{length};
 ghost use Rattle.subregion.specs.Letter.{paperLetter};
 ghost use Rattle.text.specs.Text.{decimal, Wrote};
-ghost use Rattle.rows.specs.Lines.{markIn, choiceAt, lineOf, blockOf, lastLine};
+ghost use Rattle.rows.specs.Lines.{markIn, lineOf, linesOf, lastLine};
 
 fn mark(c: LetterAnswer) -> u8
     ensures { λ r. ⌜ r ≡ markIn (paperLetter c) ⌝ }
@@ -44,19 +43,10 @@ fn put_line(out: &mut [u8], at: usize, row: u64, c: LetterAnswer) -> usize
     put_number(out, next, refusal_byte(c) as u64, b"\n")
 }
 
-// The choice of row i.
-fn choice_at(s: &[u8], i: usize) -> LetterAnswer
-    requires { ⌜ 16 * i + 16 ≤ length (now s) ⌝ }
-    ensures { λ r. ⌜ paperLetter r ≡ choiceAt (now (s .entry)) i ⌝ }
-{
-    let at = 16 * i;
-    sub_region3_pT(MPa(float_at(s, at)), Kelvin(float_at(s, at + 8)))
-}
-
-// The lines of the first n rows, from index 0 on.
-pub fn put_lines(s: &[u8], n: usize, done: u64, out: &mut [u8]) -> usize
-    requires { ⌜ (16 * n ≤ length (now s)) × (27 * n + 17 ≤ length (now out)) × (done + n < 2 ^ 64) ⌝ }
-    ensures { λ r. ⌜ Wrote (now (out .entry)) 0 (blockOf done (now (s .entry)) n) (now (out .exit)) r ⌝ }
+// The lines of the first n rows of the columns, from index 0 on.
+pub fn put_lines(ps: &[f64], ts: &[f64], n: usize, done: u64, out: &mut [u8]) -> usize
+    requires { ⌜ (n ≤ length (now ps)) × (n ≤ length (now ts)) × (27 * n + 17 ≤ length (now out)) × (done + n < 2 ^ 64) ⌝ }
+    ensures { λ r. ⌜ Wrote (now (out .entry)) 0 (linesOf done (now (ps .entry)) (now (ts .entry)) n) (now (out .exit)) r ⌝ }
     ensures { λ r. ⌜ r ≤ 27 * n ⌝ }
 {
     let mut at = 0;
@@ -64,7 +54,7 @@ pub fn put_lines(s: &[u8], n: usize, done: u64, out: &mut [u8]) -> usize
     let mut row = done;
     while i < n {
         row += 1;
-        at = put_line(out, at, row, choice_at(s, i));
+        at = put_line(out, at, row, sub_region3_pT(MPa(ps[i]), Kelvin(ts[i])));
         i += 1;
     }
     at

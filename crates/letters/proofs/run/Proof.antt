@@ -5,10 +5,10 @@ use Rattle.letters.proofs.run.Statement.{statement}
 use Rattle.letters.proofs.run.Tie as tie
 
 abbrev Inv-loop : tie.InvT-loop
-Inv-loop bytes₀ lines₀ done₀ bytes lines done = Unit
+Inv-loop bytes₀ ps₀ ts₀ lines₀ done₀ bytes ps ts lines done = Unit
 
 abbrev μ-loop : tie.MeasureT-loop
-μ-loop bytes₀ lines₀ done₀ bytes lines done = 0xffff_ffff_ffff_0000 - done
+μ-loop bytes₀ ps₀ ts₀ lines₀ done₀ bytes ps ts lines done = 0xffff_ffff_ffff_0000 - done
 
 pub run-spec : {M : Type 1} → statement M
 run-spec =

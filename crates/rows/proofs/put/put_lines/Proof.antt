@@ -1,5 +1,4 @@
--- `rows::put::put_lines` meets its contract. The loop's invariant: the lines of the rows passed stand there, and `row` is the last one's number.
--- Assumes nothing.
+-- `rows::put::put_lines` meets its contract. Assumes nothing.
 use mathlib.Core.Path.{_≡_, refl, sym, _∙_, subst}
 use Prim.Native.Nat.{ℕ, _+_, _*_, _-_, _≤_}
 use native.Mathlib.Nat.{le-antisymm, add-zero}
@@ -7,46 +6,82 @@ use native.Mathlib.Omega.{arith}
 use borrow.Author.Needs.{needs}
 use lib.ListN.{length}
 use Rattle.text.specs.Text.{Wrote}
-use Rattle.rows.specs.Lines.{blockOf}
+use Rattle.rows.specs.Lines.{linesOf}
 use Rattle.rows.proofs.Laws.{lines-none, lines-step}
 use Rattle.rows.proofs.put.put_lines.Statement.{statement}
 use Rattle.rows.proofs.put.put_lines.Tie as tie
 
 abbrev Inv-loop : tie.InvT-loop
-Inv-loop s n done out₀ at₀ i₀ row₀ out at i row =
-    (i ≤ n) × (row ≡ done + i) × (at ≤ 27 * i) × (length out ≡ length out₀) × Wrote out₀ 0 (blockOf done s i) out at
+Inv-loop ps ts n done out₀ at₀ i₀ row₀ out at i row =
+    (i ≤ n) × (row ≡ done + i) × (at ≤ 27 * i) × (length out ≡ length out₀) × Wrote out₀ 0 (linesOf done ps ts i) out at
 
 abbrev μ-loop : tie.MeasureT-loop
-μ-loop s n done out₀ at₀ i₀ row₀ out at i row = n - i
+μ-loop ps ts n done out₀ at₀ i₀ row₀ out at i row = n - i
 
 loop-holds : tie.Need-loop-holds Inv-loop μ-loop
 loop-holds c =
-    let a = c .before .before .args in
-    (omega arith, sym (add-zero (a .done)), omega arith, refl, lines-none (a .done) (a .s .now) (a .out .now))
+    let a = c .before .before .before .args in
+    (omega arith, sym (add-zero (a .done)), omega arith, refl, lines-none (a .done) (a .ps .now) (a .ts .now) (a .out .now))
+
+add-row : tie.Need-add-row Inv-loop μ-loop
+add-row c = omega arith
+
+mul-t13 : tie.Need-mul-t13 Inv-loop μ-loop
+mul-t13 c = omega arith
+
+shared-slice-read-t15 : tie.Need-shared-slice-read-t15 Inv-loop μ-loop
+shared-slice-read-t15 c = omega arith
+
+mul-t17 : tie.Need-mul-t17 Inv-loop μ-loop
+mul-t17 c = omega arith
+
+shared-slice-read-t19 : tie.Need-shared-slice-read-t19 Inv-loop μ-loop
+shared-slice-read-t19 c = omega arith
+
+add-i : tie.Need-add-i Inv-loop μ-loop
+add-i c = omega arith
+
+loop-less : tie.Need-loop-less Inv-loop μ-loop
+loop-less c = omega arith
 
 loop-again : tie.Need-loop-again Inv-loop μ-loop
 loop-again c =
     let w = c .before .before in
-    let l = w .before .before .before .before in
-    let a = l .before .before .before .args in (
+    let l = w .before .before .before .before .before .before in
+    let a = l .before .before .before .before .args in (
       omega arith,
       omega arith,
       omega arith,
       w .put-line .kept .0 ∙ l .loop .inv .3,
-      lines-step (a .done) (a .s .now) (l .loop .i) (l .loop .row) _ (l .loop .inv .1) (w .before .choice-at .ensures) (l .loop .inv .4) (w .put-line .ensures .0),
+      lines-step (a .done) (a .ps .now) (a .ts .now) (l .loop .i) (l .loop .row) _ (l .loop .inv .1) (w .before .sub-region3-pT .ensures) (l .loop .inv .4) (w .put-line .ensures .0),
     )
+
+same-length : tie.Need-same-length Inv-loop μ-loop
+same-length c = c .before .loop .inv .3
 
 returns : tie.Need-returns Inv-loop μ-loop
 returns c =
     let l = c .before in
-    let a = l .before .before .before .args in
+    let a = l .before .before .before .before .args in
     let e : l .loop .i ≡ a .n = le-antisymm (l .loop .inv .0) (c .loop-test .left) in
-    (subst (λ (k : ℕ). Wrote (a .out .now) 0 (blockOf (a .done) (a .s .now) k) (l .loop .out) (l .loop .at)) e (l .loop .inv .4), omega arith)
+    (subst (λ (k : ℕ). Wrote (a .out .now) 0 (linesOf (a .done) (a .ps .now) (a .ts .now) k) (l .loop .out) (l .loop .at)) e (l .loop .inv .4), omega arith)
 
 pub put-lines-spec : {M : Type 1} → statement M
 put-lines-spec =
     tie.close
-    (tie.spec Inv-loop μ-loop
-    loop-holds (λ c. omega arith) (λ c κs. omega arith) (λ c κs. search needs) (λ c. omega arith) (λ c. omega arith)
-    loop-again (λ c. c .before .loop .inv .3)
+    (tie.spec
+    Inv-loop
+    μ-loop
+    loop-holds
+    add-row
+    mul-t13
+    shared-slice-read-t15
+    mul-t17
+    shared-slice-read-t19
+    (λ c κs. search needs)
+    (λ c κs. search needs)
+    add-i
+    loop-less
+    loop-again
+    same-length
     returns)
