@@ -22,11 +22,8 @@ use Rattle.rules.proofs.Meaning.{shape, root-nearest, root-held}
 -- ---- an f64 that is not below 0 is `inUnits` of it over 2^1074
 
 shift : (m n d : ℕ) → d ≤ n → m * 1 * 2 ^ n ≡ m * 2 ^ (n - d) * 2 ^ d
-shift m n d h = ap (λ (x : ℕ). m * 1 * 2 ^ x) (sym (back n d h)) ∙ ap (λ (x : ℕ). m * 1 * x) (pow-add 2 (n - d) d) ∙ tidy (2 ^ (n - d)) (2 ^ d)
+shift m n d h = ap (λ (x : ℕ). m * 1 * 2 ^ x) (sym (omega arith)) ∙ ap (λ (x : ℕ). m * 1 * x) (pow-add 2 (n - d) d) ∙ tidy (2 ^ (n - d)) (2 ^ d)
   where
-    back : (n d : ℕ) → d ≤ n → n - d + d ≡ n
-    back n d h = omega arith
-
     tidy : (x y : ℕ) → m * 1 * (x * y) ≡ m * x * y
     tidy x y = omega arith
 

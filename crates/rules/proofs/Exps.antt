@@ -107,12 +107,19 @@ module _ (m : ℕ) (e : ℤ) (f : T (fits binary64 (fin false m e))) where
       lt-of-lt-of-le (mul-lt-mul-of-pos-right (mul-lt-mul-of-pos-right g (pow-pos k)) (zero-lt-suc 1))
       (le-trans (mul-le-mul-right 2 (le-trans (le-of-eq (sym (pow-add 2 53 k))) (pow-mono {i = 53 + k} {j = 1073} (omega arith)))) (le-of-eq refl))
 
+  -- a normal number: its digits, with k places after them
+  normal : (toBits binary64 (fin false m e) / 2 ^ 52 ≡ 0 → ⊥)
+      → (k : ℕ) × (toBits binary64 (fin false m e) / 2 ^ 52 ≡ suc k) × (m * up e * 2 ^ 1074 ≡ (toBits binary64 (fin false m e) % 2 ^ 52 + 2 ^ 52) * 2 ^ k * down e)
+  normal n =
+      let c = toBits binary64 (fin false m e) in
+      let s = shape c (size-bits-lt m e f) n in
+      let r = c % 2 ^ 52 + 2 ^ 52 in
+      let v : HasValue (ofBits binary64 c) false (r * 2 ^ (s .0)) (2 ^ 1074) = subst (λ (y : ℕ). HasValue (ofBits binary64 y) false (r * 2 ^ (s .0)) (2 ^ 1074)) (sym (s .3)) (read-suc (s .0) r (s .2) (omega arith) (omega arith)) in
+      (s .0, s .1, of-value (r * 2 ^ (s .0)) v)
+
   pub small-whole : toBits binary64 (fin false m e) / 2 ^ 52 < 1022 → closest (m * up e) (down e) ≡ 0
   small-whole h = go (toBits binary64 (fin false m e) / 2 ^ 52) refl
     where
-      b : ℕ
-      b = toBits binary64 (fin false m e)
-
       go : (q : ℕ) → toBits binary64 (fin false m e) / 2 ^ 52 ≡ q → closest (m * up e) (down e) ≡ 0
       go zero z =
           let l : toBits binary64 (fin false m e) < 2 ^ 52 = omega arith in
@@ -120,22 +127,14 @@ module _ (m : ℕ) (e : ℤ) (f : T (fits binary64 (fin false m e))) where
           (below-half (toBits binary64 (fin false m e)) (of-value (toBits binary64 (fin false m e)) (read-0 (toBits binary64 (fin false m e)) l))
           (lt-of-lt-of-le (mul-lt-mul-of-pos-right l (zero-lt-suc 1)) (pow-mono {i = 53} {j = 1074} (omega arith))))
       go (suc q) z =
-          let c = toBits binary64 (fin false m e) in
-          let s = shape c (size-bits-lt m e f) (λ (y : c / 2 ^ 52 ≡ 0). absurd (omega arith)) in
-          let r = c % 2 ^ 52 + 2 ^ 52 in
-          let v : HasValue (ofBits binary64 c) false (r * 2 ^ (s .0)) (2 ^ 1074) = subst (λ (y : ℕ). HasValue (ofBits binary64 y) false (r * 2 ^ (s .0)) (2 ^ 1074)) (sym (s .3)) (read-suc (s .0) r (s .2) (omega arith) (omega arith)) in
-          half-0 (m * up e) (down e) (down-pos e)
-          (below-half (r * 2 ^ (s .0)) (of-value (r * 2 ^ (s .0)) v) (few (s .0) r (omega (arith, s .1)) (omega arith)))
+          let s = normal (λ y. absurd (omega arith)) in
+          let r = toBits binary64 (fin false m e) % 2 ^ 52 + 2 ^ 52 in
+          half-0 (m * up e) (down e) (down-pos e) (below-half (r * 2 ^ (s .0)) (s .2) (few (s .0) r (omega (arith, s .1)) (omega arith)))
 
   -- from a half on, and no more than 1010
   module _ (t : m * up e ≤ 1010 * down e) (l : 1022 ≤ toBits binary64 (fin false m e) / 2 ^ 52) where
     large : (k : ℕ) × (toBits binary64 (fin false m e) / 2 ^ 52 ≡ suc k) × (m * up e * 2 ^ 1074 ≡ (toBits binary64 (fin false m e) % 2 ^ 52 + 2 ^ 52) * 2 ^ k * down e)
-    large =
-        let c = toBits binary64 (fin false m e) in
-        let s = shape c (size-bits-lt m e f) (λ (y : c / 2 ^ 52 ≡ 0). absurd (omega arith)) in
-        let r = c % 2 ^ 52 + 2 ^ 52 in
-        let v : HasValue (ofBits binary64 c) false (r * 2 ^ (s .0)) (2 ^ 1074) = subst (λ (y : ℕ). HasValue (ofBits binary64 y) false (r * 2 ^ (s .0)) (2 ^ 1074)) (sym (s .3)) (read-suc (s .0) r (s .2) (omega arith) (omega arith)) in
-        (s .0, s .1, of-value (r * 2 ^ (s .0)) v)
+    large = normal (λ y. absurd (omega arith))
 
     bound : (k r : ℕ) → 2 ^ 52 ≤ r → m * up e * 2 ^ 1074 ≡ r * 2 ^ k * down e → k < 1032
     bound k r g h =

@@ -43,22 +43,6 @@ looked-bits-at t = and 0 looked-bits-kinds.ps (is 0 looked-bits-kinds.ps μ-look
 abbrev looked-bits-below : ℕ → In 0 looked-bits-kinds.ps
 looked-bits-below t = and 0 looked-bits-kinds.ps (falls 0 looked-bits-kinds.ps _<_ μ-looked-bits t) looked-bits.Pre
 
-looked-bits-look-requires : (t : ℕ) → looked-bits-lts.Need-look-requires (
-  look-reads.Asked,
-  look-reads.Learnt,
-  looked-bits-below t,
-  looked-bits.Post,
-) (looked-bits-at t) looked-bits.Post
-looked-bits-look-requires t c κs = tt
-
-looked-bits-looked-bits-requires : (t : ℕ) → looked-bits-lts.Need-looked-bits-requires (
-  look-reads.Asked,
-  look-reads.Learnt,
-  looked-bits-below t,
-  looked-bits.Post,
-) (looked-bits-at t) looked-bits.Post
-looked-bits-looked-bits-requires t c κs = (omega (arith, c .before .before .pre .0), tt)
-
 -- r as the first branch leaves it
 stepped : (t : ℕ) (c : looked-bits-lts.Joined1 (look-reads.Asked, look-reads.Learnt, looked-bits-below t, looked-bits.Post) (looked-bits-at t) looked-bits.Post) →
     c .if1 .s ≡ taken (looked (c .before .args .a)) (odd (c .before .args .n)) (c .before .args .r) (c .before .args .x)
@@ -87,7 +71,4 @@ pub +looked-bits-spec : {M : Type 1} → statement M
     (look-reads.Asked, look-reads.Learnt, looked-bits-below t, looked-bits.Post)
     (looked-bits-at t)
     looked-bits.Post
-    (looked-bits-look-requires t)
-    (looked-bits-looked-bits-requires t)
-    (looked-bits-returns t)
-    (looked-bits-returns-2 t)
+    (λ c κs. tt) (λ c κs. (omega (arith, c .before .before .pre .0), tt)) (looked-bits-returns t) (looked-bits-returns-2 t)
