@@ -71,12 +71,11 @@ abbrev pub liftedTo : Float → Float
 liftedTo x = cond (le x zeroF) (decimal 0_000001 6) x
 
 -- the place x, to which the step dx led, with what is missing there
-unfoldable pub arrivedAt : Curve → Float → Secant → Float → Float → Outcome Secant
-unfolding missingAt
+abbrev pub arrivedAt : Curve → Float → Secant → Float → Float → Outcome Secant
 arrivedAt curve y s dx x = then (missingAt curve y x) (λ f. value (placed (s .x) (s .f) x f dx))
 
 unfoldable pub trialBy : Curve → Float → Secant → Float → Outcome Secant
-unfolding arrivedAt
+unfolding missingAt
 trialBy curve y s e = then (stepBy s e) (λ dx. then (value (s .x) ⊕ value dx) (λ x. arrivedAt curve y s dx (liftedTo x)))
 
 -- the search ends, or goes on from another place

@@ -1,4 +1,4 @@
--- `exchange_writer::record_of` meets its contract. Assumes nothing.
+-- `exchange_writer::record_of` meets its contract: by the pair. Assumes nothing.
 use borrow.Author.Needs.{needs}
 use Rattle.exchange_writer.proofs.record_of.Statement.{statement}
 use Rattle.exchange_writer.proofs.record_of.Tie as tie

@@ -1,4 +1,4 @@
--- `exchange_writer::two_fields` meets its contract. Assumes nothing.
+-- `exchange_writer::two_fields` meets its contract: the bytes of each number, turned. Assumes nothing.
 use borrow.Author.Needs.{needs}
 use Rattle.exchange_writer.proofs.two_fields.Statement.{statement}
 use Rattle.exchange_writer.proofs.two_fields.Tie as tie

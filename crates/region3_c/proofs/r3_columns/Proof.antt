@@ -1,4 +1,4 @@
--- `region3_c::r3_columns` meets its contract. Assumes nothing.
+-- `region3_c::r3_columns` meets its contract: the run's verdict as a byte, beside its columns. Assumes nothing.
 use borrow.Author.Needs.{needs}
 use Rattle.region3_c.proofs.Exports.{exported-columns}
 use Rattle.region3_c.proofs.r3_columns.Statement.{statement}

@@ -2,16 +2,13 @@
 use mathlib.Core.Path.{sym, _∙_}
 use borrow.Author.Needs.{needs}
 use Rattle.common.proofs.Laws.{check-kept, check-lost}
-use Rattle.secant.specs.Secant.{arrivedAt}
 use Rattle.secant.proofs.arrive.Statement.{statement}
 use Rattle.secant.proofs.arrive.Tie as tie
 
 returns : tie.Need-returns
-unfolding arrivedAt
 returns c = let m = c .before .before .missing in rw (m .ensures .is, check-kept (m .result) (sym (c .before .is-finite .ensures) ∙ c .if1 .taken))
 
 returns-2 : tie.Need-returns-2
-unfolding arrivedAt
 returns-2 c = let m = c .before .before .missing in rw (m .ensures .is, check-lost (m .result) (sym (c .before .is-finite .ensures) ∙ c .if1 .left))
 
 pub arrive-spec : {M : Type 1} → statement M

@@ -1,4 +1,4 @@
--- `exchange_entry::call::answer` meets its contract. Assumes nothing.
+-- `exchange_entry::call::answer` meets its contract: what was read, and the pair's answer or the reader's refusal. Assumes nothing.
 use borrow.Author.Needs.{needs}
 use Rattle.common.specs.Outcome.{value, refused}
 use Rattle.exchange_entry.proofs.call.answer.Statement.{statement}

@@ -1,4 +1,4 @@
--- `exchange_entry::call::ask` meets its contract. Assumes nothing.
+-- `exchange_entry::call::ask` meets its contract: by the pair, its own entry. Assumes nothing.
 use borrow.Author.Needs.{needs}
 use Rattle.exchange_entry.proofs.call.ask.Statement.{statement}
 use Rattle.exchange_entry.proofs.call.ask.Tie as tie

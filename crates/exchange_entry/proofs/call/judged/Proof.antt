@@ -1,4 +1,4 @@
--- `exchange_entry::call::judged` meets its contract. Assumes nothing.
+-- `exchange_entry::call::judged` meets its contract: by the verdict. Assumes nothing.
 use borrow.Author.Needs.{needs}
 use Rattle.exchange_entry.proofs.call.judged.Statement.{statement}
 use Rattle.exchange_entry.proofs.call.judged.Tie as tie

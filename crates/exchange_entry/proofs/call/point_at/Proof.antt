@@ -1,4 +1,4 @@
--- `exchange_entry::call::point_at` meets its contract. Assumes nothing.
+-- `exchange_entry::call::point_at` meets its contract: by the pair. Assumes nothing.
 use borrow.Author.Needs.{needs}
 use Rattle.exchange_entry.proofs.call.point_at.Statement.{statement}
 use Rattle.exchange_entry.proofs.call.point_at.Tie as tie

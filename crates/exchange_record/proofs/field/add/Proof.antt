@@ -1,4 +1,4 @@
--- `exchange_record::field::add` meets its contract. Assumes nothing.
+-- `exchange_record::field::add` meets its contract: by what was seen before. Assumes nothing.
 use borrow.Author.Needs.{needs}
 use Rattle.exchange_record.proofs.field.add.Statement.{statement}
 use Rattle.exchange_record.proofs.field.add.Tie as tie

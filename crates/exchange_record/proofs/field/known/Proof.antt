@@ -1,4 +1,4 @@
--- `exchange_record::field::known` meets its contract. Assumes nothing.
+-- `exchange_record::field::known` meets its contract: by the test. Assumes nothing.
 use borrow.Author.Tests.{lt-ltb, le-ltb}
 use Rattle.exchange_record.proofs.field.known.Statement.{statement}
 use Rattle.exchange_record.proofs.field.known.Tie as tie

@@ -1,4 +1,4 @@
--- `exchange_record::field::step` meets its contract. Assumes nothing.
+-- `exchange_record::field::step` meets its contract: a header or a body cut off, and then the three fates of a whole field. Assumes nothing.
 use mathlib.Core.Path.{_≡_, refl, sym, ap, _∙_}
 use mathlib.Core.Logic.{inl, inr}
 use borrow.Author.Needs.{needs}

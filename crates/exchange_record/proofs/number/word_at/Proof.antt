@@ -1,4 +1,4 @@
--- `exchange_record::number::word_at` meets its contract. Assumes nothing.
+-- `exchange_record::number::word_at` meets its contract: two halves of four bytes are eight bytes. Assumes nothing.
 use borrow.Author.Needs.{needs}
 use Rattle.exchange_record.proofs.Bytes.{eight-bytes}
 use Rattle.exchange_record.proofs.number.word_at.Statement.{statement}

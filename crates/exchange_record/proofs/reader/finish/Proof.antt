@@ -1,4 +1,4 @@
--- `exchange_record::reader::finish` meets its contract. Assumes nothing.
+-- `exchange_record::reader::finish` meets its contract: by what was seen. Assumes nothing.
 use mathlib.Core.Path.{sym, ap, _∙_}
 use borrow.Author.Needs.{needs}
 use Rattle.exchange_record.specs.Walk.{finished}
