@@ -48,7 +48,7 @@ pub fn band_ab(p: MPa, t: Kelvin) -> LetterAnswer
     ensures { λ r. ⌜ paperLetter r ≡ rawAb (p .0) (t .0) ⌝ }
 {
     let tab = tabled(AB, p);
-    if all_finite(&[tab]) {
+    if is_finite(tab) {
         return LetterAnswer::Value(by_ab(Kelvin(tab), t));
     }
     LetterAnswer::Refused(Refusal::Step)
@@ -144,7 +144,7 @@ pub fn band_ct(p: MPa, t: Kelvin) -> LetterAnswer
     ensures { λ r. ⌜ paperLetter r ≡ rawCt (p .0) (t .0) ⌝ }
 {
     let tsat = raw_T_saturation(p);
-    if all_finite(&[tsat]) {
+    if is_finite(tsat) {
         return LetterAnswer::Value(by_ct(Kelvin(tsat), t));
     }
     LetterAnswer::Refused(Refusal::Step)

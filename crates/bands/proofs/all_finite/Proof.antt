@@ -33,14 +33,14 @@ loop-again : tie.Need-loop-again Inv-loop μ-loop
 loop-again c =
     let l = c .before .before .before .before in
     let ts = l .before .before .args .ts .now in
-    let f : finite (getD ts (l .loop .i) nan) ≡ true = cc in
+    let f : finite (getD ts (l .loop .i) nan) ≡ true = sym (c .before .is-finite .ensures) ∙ c .if1 .taken in
     (search needs, l .loop .inv .1 ∙ tested ts (l .loop .i) (search needs) ∙ rw f)
 
 returns : tie.Need-returns Inv-loop μ-loop
 returns c =
     let l = c .before .before .before .before in
     let ts = l .before .before .args .ts .now in
-    let f : finite (getD ts (l .loop .i) nan) ≡ false = cc in
+    let f : finite (getD ts (l .loop .i) nan) ≡ false = sym (c .before .is-finite .ensures) ∙ c .if1 .left in
     sym (l .loop .inv .1 ∙ tested ts (l .loop .i) (search needs) ∙ rw f)
 
 returns-2 : tie.Need-returns-2 Inv-loop μ-loop
@@ -54,15 +54,6 @@ returns-2 c =
 pub all-finite-spec : {M : Type 1} → statement M
 all-finite-spec =
     tie.close
-    (tie.spec
-    Inv-loop
-    μ-loop
-    loop-holds
-    (λ c. search needs)
-    (λ c. search needs)
-    (λ c κs. search needs)
-    (λ c. search needs)
-    (λ c. search needs)
-    loop-again
-    returns
-    returns-2)
+    (tie.spec Inv-loop μ-loop
+    loop-holds (λ c. search needs) (λ c. search needs) (λ c κs. search needs) (λ c. search needs) (λ c. search needs) loop-again
+    returns returns-2)

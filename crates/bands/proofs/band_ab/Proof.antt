@@ -1,23 +1,14 @@
--- `bands::band_ab` meets its contract: the boundaries are tested together. Assumes nothing.
+-- `bands::band_ab` meets its contract: its one boundary is tested. Assumes nothing.
+use Rattle.common.specs.Sum.{every}
 use borrow.Author.Needs.{needs}
 use Rattle.bands.proofs.band_ab.Statement.{statement}
 use Rattle.bands.proofs.band_ab.Tie as tie
 
-returns : tie.Need-returns
-returns c =
-    let f = c .before .before in
-    let d = f .before .before in
-    rw (c .by-ab .ensures, ← d .tabled .ensures, ← f .all-finite .ensures, c .before .if1 .taken)
-
-returns-2 : tie.Need-returns-2
-returns-2 c =
-    let f = c .before in
-    let d = f .before .before in
-    rw (← d .tabled .ensures, ← f .all-finite .ensures, c .if1 .left)
-
 pub band-ab-spec : {M : Type 1} → statement M
+unfolding every
 band-ab-spec =
     tie.close
     (tie.spec
-    (λ c κs. search needs) (λ c. search needs) (λ c κs. search needs) (λ c κs. search needs)
-    returns returns-2)
+    (λ c κs. search needs) (λ c κs. search needs) (λ c κs. search needs)
+    (λ c. let f = c .before .before in rw (c .by-ab .ensures, ← f .before .tabled .ensures, ← f .is-finite .ensures, c .before .if1 .taken))
+    (λ c. let f = c .before in rw (← f .before .tabled .ensures, ← f .is-finite .ensures, c .if1 .left)))
