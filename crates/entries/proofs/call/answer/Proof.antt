@@ -6,6 +6,10 @@ use Rattle.entries.specs.Entries.{replyRule}
 use Rattle.entries.proofs.call.answer.Statement.{statement}
 use Rattle.entries.proofs.call.answer.Tie as tie
 
+returns-4 : tie.Need-returns-4
+unfolding replyRule
+returns-4 c = rw (c .before .before .entry3 .given .1) (rw (toZ-ofZ w32 (c .before .before .before .before .args .n) (c .before .before .before .before .fits .n)) at (c .twenties .ensures))
+
 pub answer-spec : {M : Type 1} → statement M
 unfolding replyRule
 answer-spec =
@@ -16,5 +20,5 @@ answer-spec =
     (λ c. rw (c .before .enum-told .given .1) (c .refused .ensures))
     (λ c. rw (c .before .before .entry .given .1) (rw (toZ-ofZ w32 (c .before .before .before .before .args .n) (c .before .before .before .before .fits .n)) at (c .ones .ensures)))
     (λ c. rw (c .before .before .entry2 .given .1) (rw (toZ-ofZ w32 (c .before .before .before .before .args .n) (c .before .before .before .before .fits .n)) at (c .tens .ensures)))
-    (λ c. rw (c .before .before .entry3 .given .1) (rw (toZ-ofZ w32 (c .before .before .before .before .args .n) (c .before .before .before .before .fits .n)) at (c .twenties .ensures)))
+    returns-4
     (λ c. rw (c .before .before .entry4 .given .1) (rw (toZ-ofZ w32 (c .before .before .before .before .args .n) (c .before .before .before .before .fits .n)) at (c .thirties .ensures))))

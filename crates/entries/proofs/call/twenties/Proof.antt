@@ -9,6 +9,10 @@ use Rattle.entries.specs.Entries.{twentiesRule}
 use Rattle.entries.proofs.call.twenties.Statement.{statement}
 use Rattle.entries.proofs.call.twenties.Tie as tie
 
+returns-2 : tie.Need-returns-2
+unfolding twentiesRule
+returns-2 c = rw (c .before .before .enum-told2 .given .1) (c .record-reply2 .ensures ∙ ap recordReply (c .before .pT-reg3 .ensures))
+
 pub twenties-spec : {M : Type 1} → statement M
 unfolding twentiesRule
 twenties-spec =
@@ -20,7 +24,7 @@ twenties-spec =
     (λ c κs. search needs) (λ c. search needs) (λ c κs. search needs) (λ c κs. search needs) (λ c. search needs) (λ c κs. search needs)
     (λ c κs. search needs) (λ c. search needs) (λ c κs. search needs) (λ c κs. search needs) (λ c. search needs) (λ c κs. search needs)
     (λ c. rw (c .before .before .enum-told .given .1) (c .record-reply .ensures ∙ ap recordReply (c .before .Td-reg3 .ensures)))
-    (λ c. rw (c .before .before .enum-told2 .given .1) (c .record-reply2 .ensures ∙ ap recordReply (c .before .pT-reg3 .ensures)))
+    returns-2
     (λ c. rw (c .before .before .enum-told3 .given .1) (c .record-reply3 .ensures ∙ ap recordReply (c .before .ph-reg3 .ensures)))
     (λ c. rw (c .before .before .enum-told4 .given .1) (c .record-reply4 .ensures ∙ ap recordReply (c .before .ps-reg3 .ensures)))
     (λ c. rw (c .before .before .enum-told5 .given .1) (c .record-reply5 .ensures ∙ ap recordReply (c .before .hs-reg3 .ensures)))

@@ -7,6 +7,10 @@ use borrow.Author.Needs.{needs}
 use Rattle.sum_rows.proofs.sums.work.Statement.{statement}
 use Rattle.sum_rows.proofs.sums.work.Tie as tie
 
+returns-3 : tie.Need-returns-3
+unfolding replyRule
+returns-3 c = rw (c .before .before .enum-told3 .given .1) (c .number-reply2 .ensures ∙ ap numberReply (c .before .poly-i-powi .ensures))
+
 pub work-spec : {M : Type 1} → statement M
 unfolding replyRule
 work-spec =
@@ -20,7 +24,7 @@ work-spec =
     (λ c κs. search needs) (λ c κs. search needs) (λ c. search needs) (λ c κs. search needs) (λ c κs. search needs)
     (λ c. rw (c .before .enum-told .given .1) (c .refused .ensures))
     (λ c. rw (c .before .before .enum-told2 .given .1) (c .number-reply .ensures ∙ ap numberReply (c .before .poly-powi .ensures)))
-    (λ c. rw (c .before .before .enum-told3 .given .1) (c .number-reply2 .ensures ∙ ap numberReply (c .before .poly-i-powi .ensures)))
+    returns-3
     (λ c. rw (c .before .before .enum-told4 .given .1) (c .number-reply3 .ensures ∙ ap numberReply (c .before .poly-ii-powi .ensures)))
     (λ c. rw (c .before .before .enum-told5 .given .1) (c .number-reply4 .ensures ∙ ap numberReply (c .before .poly-ij-powi .ensures)))
     (λ c. rw (c .before .before .enum-told6 .given .1) (c .number-reply5 .ensures ∙ ap numberReply (c .before .poly-j-powi .ensures)))
