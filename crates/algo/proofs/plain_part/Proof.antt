@@ -57,7 +57,6 @@ returns c =
 
 pub plain-part-spec : {M : Type 1} → statement M
 plain-part-spec =
-    tie.close
-    (tie.spec Inv-loop μ-loop loop-holds (λ c. omega arith) (λ c. omega arith) (λ c. omega arith) (λ c. omega arith) cast-power-in
+    tie.close (tie.spec Inv-loop μ-loop loop-holds (λ c. omega arith) (λ c. omega arith) (λ c. omega arith) (λ c. omega arith) cast-power-in
     (λ c κs. search needs) (λ c. omega arith) (λ c. omega arith) cast-power-in-2 (λ c κs. search needs) (λ c. omega arith) (λ c. omega arith)
     loop-again returns)

@@ -53,7 +53,5 @@ returns-2 c =
 
 pub all-finite-spec : {M : Type 1} → statement M
 all-finite-spec =
-    tie.close
-    (tie.spec Inv-loop μ-loop
-    loop-holds (λ c. search needs) (λ c. search needs) (λ c κs. search needs) (λ c. search needs) (λ c. search needs) loop-again
-    returns returns-2)
+    tie.close (tie.spec Inv-loop μ-loop loop-holds (λ c. search needs) (λ c. search needs) (λ c κs. search needs) (λ c. search needs)
+    (λ c. search needs) loop-again returns returns-2)

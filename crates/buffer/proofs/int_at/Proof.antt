@@ -21,5 +21,4 @@ returns-2 : tie.Need-returns-2
 returns-2 c = rw (← c .before .lies .ensures, c .if1 .left)
 
 pub int-at-spec : {M : Type 1} → statement M
-int-at-spec =
-    tie.close (tie.spec (λ c κs. search needs) half-at-requires (λ c κs. search needs) returns returns-2)
+int-at-spec = tie.close (tie.spec (λ c κs. search needs) half-at-requires (λ c κs. search needs) returns returns-2)

@@ -17,15 +17,8 @@ returns c =
 
 pub put-eight-spec : {M : Type 1} → statement M
 put-eight-spec =
-    tie.close
-    (tie.spec
-    (λ c κs. search needs) (λ c. search needs)
-    (λ c κs. search needs) (λ c. search needs) (λ c. simp length-set (omega arith))
-    (λ c κs. search needs) (λ c. search needs) (λ c. simp length-set (omega arith))
-    (λ c κs. search needs) (λ c. search needs) (λ c. simp length-set (omega arith))
-    (λ c κs. search needs) (λ c. search needs) (λ c. simp length-set (omega arith))
-    (λ c κs. search needs) (λ c. search needs) (λ c. simp length-set (omega arith))
-    (λ c κs. search needs) (λ c. search needs) (λ c. simp length-set (omega arith))
-    (λ c κs. search needs) (λ c. search needs) (λ c. simp length-set (omega arith))
-    (λ c. search needs)
-    returns)
+    tie.close (tie.spec (λ c κs. search needs) (λ c. search needs) (λ c κs. search needs) (λ c. search needs) (λ c. simp length-set (omega arith))
+    (λ c κs. search needs) (λ c. search needs) (λ c. simp length-set (omega arith)) (λ c κs. search needs) (λ c. search needs)
+    (λ c. simp length-set (omega arith)) (λ c κs. search needs) (λ c. search needs) (λ c. simp length-set (omega arith)) (λ c κs. search needs)
+    (λ c. search needs) (λ c. simp length-set (omega arith)) (λ c κs. search needs) (λ c. search needs) (λ c. simp length-set (omega arith))
+    (λ c κs. search needs) (λ c. search needs) (λ c. simp length-set (omega arith)) (λ c. search needs) returns)

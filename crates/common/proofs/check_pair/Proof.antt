@@ -42,6 +42,5 @@ returns-5 c = rw (sym (c .before .is-finite .ensures) ∙ c .if1 .left)
 
 pub check-pair-spec : {M : Type 1} → statement M
 check-pair-spec =
-    tie.close
-    (tie.spec (λ c κs. search needs) (λ c κs. search needs) (λ c κs. search needs) (λ c κs. search needs) returns returns-2 returns-3 returns-4
-    returns-5)
+    tie.close (tie.spec (λ c κs. search needs) (λ c κs. search needs) (λ c κs. search needs) (λ c κs. search needs) returns returns-2 returns-3
+    returns-4 returns-5)

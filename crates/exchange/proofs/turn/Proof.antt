@@ -7,8 +7,6 @@ use Rattle.exchange.proofs.turn.Tie as tie
 
 pub turn-spec : {M : Type 1} → statement M
 turn-spec =
-    tie.close
-    (tie.spec
-    (λ c. search needs) (λ c. search needs) (λ c κs. search needs) (λ c. search needs) (λ c κs. search needs) (λ c. search needs)
+    tie.close (tie.spec (λ c. search needs) (λ c. search needs) (λ c κs. search needs) (λ c. search needs) (λ c κs. search needs) (λ c. search needs)
     (λ c κs. search needs) (λ c. search needs) (λ c. sym (length-take-le _ _ (search needs))) (λ c κs. search needs) (λ c. search needs)
     (λ c. search needs))

@@ -9,5 +9,5 @@ returns-6 c = let t = tests (c .before .args .byte) (1 ∷ 2 ∷ 3 ∷ 4 ∷ 5 �
 
 pub pair-by-spec : {M : Type 1} → statement M
 pair-by-spec =
-    tie.close
-    (tie.spec (λ c. rw (c .match .keys1)) (λ c. rw (c .match .keys2)) (λ c. rw (c .match .keys3)) (λ c. rw (c .match .keys4)) (λ c. rw (c .match .keys5)) returns-6)
+    tie.close (tie.spec (λ c. rw (c .match .keys1)) (λ c. rw (c .match .keys2)) (λ c. rw (c .match .keys3)) (λ c. rw (c .match .keys4))
+    (λ c. rw (c .match .keys5)) returns-6)

@@ -41,6 +41,5 @@ returns-2 c = sym (said (c .before .before .before) _ (c .before .k .given .1))
 
 pub write-spec : {M : Type 1} → statement M
 write-spec =
-    tie.close
-    (tie.spec
-    (λ c κs. search needs) (λ c κs. search needs) (λ c κs. search needs) (λ c. search needs) put-requires (λ c. search needs) returns (λ c. search needs) returns-2)
+    tie.close (tie.spec (λ c κs. search needs) (λ c κs. search needs) (λ c κs. search needs) (λ c. search needs) put-requires (λ c. search needs)
+    returns (λ c. search needs) returns-2)

@@ -78,7 +78,6 @@ returns c =
 
 pub joint-sums-spec : {M : Type 1} → statement M
 joint-sums-spec =
-    tie.close
-    (tie.spec Inv-loop μ-loop (λ c κs. search needs) (λ c κs. search needs) loop-holds mul-i shared-slice-copy-out-i mul-j shared-slice-copy-out-j
-    mul-factor shared-slice-read-factor (λ c κs. search needs) (λ c κs. search needs) (λ c κs. search needs) (λ c κs. search needs) add-k
-    (λ c. omega arith) loop-again returns)
+    tie.close (tie.spec Inv-loop μ-loop (λ c κs. search needs) (λ c κs. search needs) loop-holds mul-i shared-slice-copy-out-i mul-j
+    shared-slice-copy-out-j mul-factor shared-slice-read-factor (λ c κs. search needs) (λ c κs. search needs) (λ c κs. search needs)
+    (λ c κs. search needs) add-k (λ c. omega arith) loop-again returns)

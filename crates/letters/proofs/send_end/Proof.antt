@@ -10,7 +10,5 @@ slice-aggregate-last c = let s = c .before .before in sym (length-take-le (s .ar
 
 pub send-end-spec : {M : Type 1} → statement M
 send-end-spec =
-    tie.close
-    (tie.spec
-    slice-aggregate-last
-    (λ c κs. search needs) (λ c κs. search needs) (λ c κs. search needs) (λ c κs. search needs) (λ c. search needs) (λ c. search needs))
+    tie.close (tie.spec slice-aggregate-last (λ c κs. search needs) (λ c κs. search needs) (λ c κs. search needs) (λ c κs. search needs)
+    (λ c. search needs) (λ c. search needs))

@@ -17,5 +17,4 @@ unfolding densityAt
 returns-2 c = rw (sym (c .before .before .before .pT2v-at .ensures) ∙ ap paper (c .before .k .given .1))
 
 pub density-at-spec : {M : Type 1} → statement M
-density-at-spec =
-    tie.close (tie.spec (λ c κs. search needs) (λ c. search needs) (λ c κs. search needs) (λ c. search needs) returns returns-2)
+density-at-spec = tie.close (tie.spec (λ c κs. search needs) (λ c. search needs) (λ c κs. search needs) (λ c. search needs) returns returns-2)

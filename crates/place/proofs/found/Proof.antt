@@ -27,7 +27,5 @@ returns-3 c = rw (sym (c .before .before .before .proposed .ensures) ∙ ap pape
 
 pub found-spec : {M : Type 1} → statement M
 found-spec =
-    tie.close
-    (tie.spec
-    (λ c κs. search needs) (λ c. search needs) (λ c κs. search needs) (λ c. search needs) (λ c. search needs) (λ c. search needs)
+    tie.close (tie.spec (λ c κs. search needs) (λ c. search needs) (λ c κs. search needs) (λ c. search needs) (λ c. search needs) (λ c. search needs)
     returns returns-2 returns-3)

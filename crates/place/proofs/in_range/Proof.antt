@@ -5,8 +5,6 @@ use Rattle.place.proofs.in_range.Tie as tie
 
 pub in-range-spec : {M : Type 1} → statement M
 in-range-spec =
-    tie.close
-    (tie.spec
-    (λ c. search needs) (λ c κs. search needs) (λ c. search needs) (λ c κs. search needs) (λ c. search needs) (λ c κs. search needs)
-    (λ c. rw (c .before .enum-told .given .1) (c .in-t .ensures)) (λ c. rw (c .before .enum-told2 .given .1) (c .in-d .ensures))
-    (λ c. rw (c .before .enum-told3 .given .1) (c .in-d2 .ensures)))
+    tie.close (tie.spec (λ c. search needs) (λ c κs. search needs) (λ c. search needs) (λ c κs. search needs) (λ c. search needs)
+    (λ c κs. search needs) (λ c. rw (c .before .enum-told .given .1) (c .in-t .ensures))
+    (λ c. rw (c .before .enum-told2 .given .1) (c .in-d .ensures)) (λ c. rw (c .before .enum-told3 .given .1) (c .in-d2 .ensures)))

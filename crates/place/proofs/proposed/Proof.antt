@@ -14,5 +14,4 @@ unfolding proposedFor
 returns-2 c = rw (sym (c .before .before .before .starts .ensures) ∙ ap paperStarts (c .before .k .given .1))
 
 pub proposed-spec : {M : Type 1} → statement M
-proposed-spec =
-    tie.close (tie.spec (λ c κs. search needs) (λ c. search needs) (λ c κs. search needs) (λ c. search needs) returns returns-2)
+proposed-spec = tie.close (tie.spec (λ c κs. search needs) (λ c. search needs) (λ c κs. search needs) (λ c. search needs) returns returns-2)

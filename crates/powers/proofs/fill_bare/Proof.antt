@@ -25,4 +25,5 @@ returns c =
 
 pub fill-bare-spec : {M : Type 1} → statement M
 fill-bare-spec =
-    tie.close (tie.spec (λ c κs. search needs) (λ c κs. search needs) (λ c κs. search needs) (λ c. search needs) fill-up-requires (λ c κs. omega (arith, c .before .before .before .before .cap2 .ensures)) returns)
+    tie.close (tie.spec (λ c κs. search needs) (λ c κs. search needs) (λ c κs. search needs) (λ c. search needs) fill-up-requires
+    (λ c κs. omega (arith, c .before .before .before .before .cap2 .ensures)) returns)

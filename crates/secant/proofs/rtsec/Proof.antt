@@ -14,5 +14,4 @@ unfolding proposalRule
 returns-2 c = rw (sym (c .before .before .start .ensures) ∙ ap paperSecant (c .enum-told .given .1))
 
 pub rtsec-spec : {M : Type 1} → statement M
-rtsec-spec =
-    tie.close (tie.spec (λ c κs. search needs) (λ c. search needs) (λ c κs. search needs) (λ c. search needs) returns returns-2)
+rtsec-spec = tie.close (tie.spec (λ c κs. search needs) (λ c. search needs) (λ c κs. search needs) (λ c. search needs) returns returns-2)

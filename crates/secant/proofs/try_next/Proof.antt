@@ -68,7 +68,5 @@ returns-6 c = rw (sym (c .before .far .ensures) ∙ c .if1 .left)
 
 pub try-next-spec : {M : Type 1} → statement M
 try-next-spec =
-    tie.close
-    (tie.spec
-    (λ c κs. search needs) returns (λ c κs. search needs) returns-2 (λ c κs. search needs) (λ c. search needs) (λ c. search needs) returns-3
-    returns-4 returns-5 returns-6)
+    tie.close (tie.spec (λ c κs. search needs) returns (λ c κs. search needs) returns-2 (λ c κs. search needs) (λ c. search needs) (λ c. search needs)
+    returns-3 returns-4 returns-5 returns-6)

@@ -75,7 +75,6 @@ returns c =
 
 pub slope-rows-spec : {M : Type 1} → statement M
 slope-rows-spec =
-    tie.close
-    (tie.spec Inv-loop μ-loop (λ c κs. search needs) (λ c κs. search needs) loop-holds mul-factor shared-slice-copy-out-factor mul-factor-2
+    tie.close (tie.spec Inv-loop μ-loop (λ c κs. search needs) (λ c κs. search needs) loop-holds mul-factor shared-slice-copy-out-factor mul-factor-2
     shared-slice-copy-out-factor-2 mul-factor-3 shared-slice-read-factor (λ c κs. search needs) (λ c κs. search needs) add-k (λ c. omega arith)
     loop-again returns)

@@ -14,6 +14,5 @@ returns-3 c = rw (c .before .enum-told3 .given .1) (c .slope-rows3 .ensures)
 
 pub slope-sum-spec : {M : Type 1} → statement M
 slope-sum-spec =
-    tie.close
-    (tie.spec (λ c. search needs) (λ c κs. search needs) (λ c. search needs) (λ c κs. search needs) (λ c. search needs) (λ c κs. search needs) returns
-    returns-2 returns-3)
+    tie.close (tie.spec (λ c. search needs) (λ c κs. search needs) (λ c. search needs) (λ c κs. search needs) (λ c. search needs)
+    (λ c κs. search needs) returns returns-2 returns-3)

@@ -15,11 +15,7 @@ abbrev μ-loop : tie.MeasureT-loop
 
 pub read-until-full-spec : {M : Type 1} → statement M
 read-until-full-spec =
-    tie.close
-    (tie.spec Inv-loop μ-loop
-    (λ c. search needs) (λ c. search needs) (λ c. search needs) (λ c. search needs) (λ c κs. search needs) (λ c κs. search needs) (λ c. search needs)
-    (λ c. counts _ _ (search needs))
-    (λ c. search needs) (λ c. search needs) (λ c. search needs) (λ c κs. search needs) (λ c. search needs)
-    (λ c. counts _ _ (search needs))
-    (λ c. search needs) (λ c. search needs) (λ c. search needs) (λ c. search needs)
-    (λ c. counts _ _ (search needs)))
+    tie.close (tie.spec Inv-loop μ-loop (λ c. search needs) (λ c. search needs) (λ c. search needs) (λ c. search needs) (λ c κs. search needs)
+    (λ c κs. search needs) (λ c. search needs) (λ c. counts _ _ (search needs)) (λ c. search needs) (λ c. search needs) (λ c. search needs)
+    (λ c κs. search needs) (λ c. search needs) (λ c. counts _ _ (search needs)) (λ c. search needs) (λ c. search needs) (λ c. search needs)
+    (λ c. search needs) (λ c. counts _ _ (search needs)))

@@ -24,7 +24,5 @@ returns-2 c = let s = c .before .before in c .refuse .ensures ∙ answer (s .bef
 
 pub accept-complete-spec : {M : Type 1} → statement M
 accept-complete-spec =
-    tie.close
-    (tie.spec
-    (λ c κs. search needs) (λ c κs. search needs) (λ c κs. search needs) (λ c κs. search needs) (λ c κs. search needs) (λ c κs. search needs) returns
-    (λ c κs. search needs) returns-2)
+    tie.close (tie.spec (λ c κs. search needs) (λ c κs. search needs) (λ c κs. search needs) (λ c κs. search needs) (λ c κs. search needs)
+    (λ c κs. search needs) returns (λ c κs. search needs) returns-2)

@@ -16,7 +16,5 @@ returns-2 c = rw (← (c .before .before .before .side-ph .ensures), c .before .
 
 pub found-ph-spec : {M : Type 1} → statement M
 found-ph-spec =
-    tie.close
-    (tie.spec
-    (λ c κs. search needs) (λ c. search needs) (λ c κs. search needs) (λ c κs. search needs) (λ c κs. search needs) (λ c. search needs) returns
-    returns-2)
+    tie.close (tie.spec (λ c κs. search needs) (λ c. search needs) (λ c κs. search needs) (λ c κs. search needs) (λ c κs. search needs)
+    (λ c. search needs) returns returns-2)

@@ -9,5 +9,4 @@ unfolding tvd-ps
 returns c = rw (← (c .before .before .before .side-s .ensures), ← (c .before .before .raw-on .ensures), ← (c .before .raw-on2 .ensures)) (c .found .ensures)
 
 pub found-ps-spec : {M : Type 1} → statement M
-found-ps-spec =
-    tie.close (tie.spec (λ c κs. search needs) (λ c κs. search needs) (λ c κs. search needs) (λ c κs. search needs) returns)
+found-ps-spec = tie.close (tie.spec (λ c κs. search needs) (λ c κs. search needs) (λ c κs. search needs) (λ c κs. search needs) returns)

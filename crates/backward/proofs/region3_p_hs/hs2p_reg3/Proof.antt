@@ -16,5 +16,5 @@ returns-2 c = rw (← (c .before .before .before .check-hs .ensures), c .before 
 
 pub hs2p-reg3-spec : {M : Type 1} → statement M
 hs2p-reg3-spec =
-    tie.close
-    (tie.spec (λ c κs. search needs) (λ c. search needs) (λ c κs. search needs) (λ c κs. search needs) (λ c κs. search needs) (λ c. search needs) returns returns-2)
+    tie.close (tie.spec (λ c κs. search needs) (λ c. search needs) (λ c κs. search needs) (λ c κs. search needs) (λ c κs. search needs)
+    (λ c. search needs) returns returns-2)

@@ -32,20 +32,8 @@ past n k h e = omega (arith, e)
 pub row-at-spec : {M : Type 1} → statement M
 unfolding rowAt table plus minus scaled round neg ofBits
 row-at-spec =
-    tie.close
-    (tie.spec
-    (λ c. sym (ap rowAt (c .match .keys1)))
-    (λ c. sym (ap rowAt (c .match .keys2)))
-    (λ c. sym (ap rowAt (c .match .keys3)))
-    (λ c. sym (ap rowAt (c .match .keys4)))
-    (λ c. sym (ap rowAt (c .match .keys5)))
-    (λ c. sym (ap rowAt (c .match .keys6)))
-    (λ c. sym (ap rowAt (c .match .keys7)))
-    (λ c. sym (ap rowAt (c .match .keys8)))
-    (λ c. sym (ap rowAt (c .match .keys9)))
+    tie.close (tie.spec (λ c. sym (ap rowAt (c .match .keys1))) (λ c. sym (ap rowAt (c .match .keys2))) (λ c. sym (ap rowAt (c .match .keys3)))
+    (λ c. sym (ap rowAt (c .match .keys4))) (λ c. sym (ap rowAt (c .match .keys5))) (λ c. sym (ap rowAt (c .match .keys6)))
+    (λ c. sym (ap rowAt (c .match .keys7))) (λ c. sym (ap rowAt (c .match .keys8))) (λ c. sym (ap rowAt (c .match .keys9)))
     (λ c. sym (ap rowAt (c .match .keys10)))
-    (λ c.
-    let k = c .before .args .k in
-    let r = c .match .rest in
-    let five = past 4 k (past 3 k (past 2 k (past 1 k (past 0 k (omega arith) (r .0 .0 .0 .0 .0 .0 .0 .0 .0 .1)) (r .0 .0 .0 .0 .0 .0 .0 .0 .1)) (r .0 .0 .0 .0 .0 .0 .0 .1)) (r .0 .0 .0 .0 .0 .0 .1)) (r .0 .0 .0 .0 .0 .1) in
-    sym (last k (past 9 k (past 8 k (past 7 k (past 6 k (past 5 k five (r .0 .0 .0 .0 .1)) (r .0 .0 .0 .1)) (r .0 .0 .1)) (r .0 .1)) (r .1)))))
+    (λ c. let k = c .before .args .k in let r = c .match .rest in let five = past 4 k (past 3 k (past 2 k (past 1 k (past 0 k (omega arith) (r .0 .0 .0 .0 .0 .0 .0 .0 .0 .1)) (r .0 .0 .0 .0 .0 .0 .0 .0 .1)) (r .0 .0 .0 .0 .0 .0 .0 .1)) (r .0 .0 .0 .0 .0 .0 .1)) (r .0 .0 .0 .0 .0 .1) in sym (last k (past 9 k (past 8 k (past 7 k (past 6 k (past 5 k five (r .0 .0 .0 .0 .1)) (r .0 .0 .0 .1)) (r .0 .0 .1)) (r .0 .1)) (r .1)))))

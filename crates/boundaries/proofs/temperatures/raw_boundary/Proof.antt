@@ -24,13 +24,11 @@ uv c = of-row 9 _ _ (c .before .enum-told11 .given .1) (c .tabled10 .ensures) re
 
 pub raw-boundary-spec : {M : Type 1} → statement M
 raw-boundary-spec =
-    tie.close
-    (tie.spec
-    (λ c. search needs) (λ c κs. search needs) (λ c. search needs) (λ c κs. search needs) (λ c. search needs) (λ c κs. search needs)
-    (λ c. search needs) (λ c κs. search needs) (λ c. search needs) (λ c κs. search needs) (λ c. search needs) (λ c κs. search needs)
-    (λ c. search needs) (λ c κs. search needs) (λ c. search needs) (λ c κs. search needs) (λ c. search needs) (λ c κs. search needs)
-    (λ c. search needs) (λ c κs. search needs) (λ c. search needs) (λ c κs. search needs) (λ c. search needs) (λ c κs. search needs)
-    (λ c. of-row 0 _ _ (c .before .enum-told .given .1) (c .tabled .ensures) refl)
+    tie.close (tie.spec (λ c. search needs) (λ c κs. search needs) (λ c. search needs) (λ c κs. search needs) (λ c. search needs)
+    (λ c κs. search needs) (λ c. search needs) (λ c κs. search needs) (λ c. search needs) (λ c κs. search needs) (λ c. search needs)
+    (λ c κs. search needs) (λ c. search needs) (λ c κs. search needs) (λ c. search needs) (λ c κs. search needs) (λ c. search needs)
+    (λ c κs. search needs) (λ c. search needs) (λ c κs. search needs) (λ c. search needs) (λ c κs. search needs) (λ c. search needs)
+    (λ c κs. search needs) (λ c. of-row 0 _ _ (c .before .enum-told .given .1) (c .tabled .ensures) refl)
     (λ c. of-row 1 _ _ (c .before .enum-told2 .given .1) (c .tabled2 .ensures) refl)
     (λ c. of-arm _ (c .before .enum-told3 .given .1) (by-line _ _ (c .straight .ensures)))
     (λ c. of-row 2 _ _ (c .before .enum-told4 .given .1) (c .tabled3 .ensures) refl)
@@ -39,6 +37,5 @@ raw-boundary-spec =
     (λ c. of-row 5 _ _ (c .before .enum-told7 .given .1) (c .tabled6 .ensures) refl)
     (λ c. of-row 6 _ _ (c .before .enum-told8 .given .1) (c .tabled7 .ensures) refl)
     (λ c. of-row 7 _ _ (c .before .enum-told9 .given .1) (c .tabled8 .ensures) refl)
-    (λ c. of-row 8 _ _ (c .before .enum-told10 .given .1) (c .tabled9 .ensures) refl)
-    uv
+    (λ c. of-row 8 _ _ (c .before .enum-told10 .given .1) (c .tabled9 .ensures) refl) uv
     (λ c. of-row 10 _ _ (c .before .enum-told12 .given .1) (c .tabled11 .ensures) refl))

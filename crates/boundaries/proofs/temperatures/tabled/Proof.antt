@@ -25,4 +25,6 @@ returns-2 : tie.Need-returns-2
 returns-2 c = c .ruled-tabled .ensures ∙ ap (rawSum (rowAt (c .before .before .before .before .before .args .k))) (x-is (c .before .before .before))
 
 pub tabled-spec : {M : Type 1} → statement M
-tabled-spec = tie.close (tie.spec (λ c κs. search needs) (λ c κs. search needs) (λ c κs. search needs) (λ c κs. search needs) (λ c κs. search needs) returns returns-2)
+tabled-spec =
+    tie.close (tie.spec (λ c κs. search needs) (λ c κs. search needs) (λ c κs. search needs) (λ c κs. search needs) (λ c κs. search needs) returns
+    returns-2)

@@ -49,10 +49,5 @@ returns-3 c bare = rw (whole (c .before) bare, ← c .before .all-finite .ensure
 
 pub band-cq-rk-spec : {M : Type 1} → statement M
 band-cq-rk-spec =
-    tie.close
-    (tie.spec
-    (λ c κs. search needs) (λ c κs. search needs) (λ c κs. search needs) (λ c κs. search needs) (λ c. search needs) (λ c κs. search needs) (λ c κs. search needs)
-    (λ c. search needs)
-    returns
-    (λ c. search needs) (λ c κs. search needs)
-    returns-2 returns-3)
+    tie.close (tie.spec (λ c κs. search needs) (λ c κs. search needs) (λ c κs. search needs) (λ c κs. search needs) (λ c. search needs)
+    (λ c κs. search needs) (λ c κs. search needs) (λ c. search needs) returns (λ c. search needs) (λ c κs. search needs) returns-2 returns-3)

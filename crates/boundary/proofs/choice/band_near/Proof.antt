@@ -72,11 +72,6 @@ returns-5 c bare = rw (whole (c .before) bare, ← c .before .all-finite .ensure
 
 pub band-near-spec : {M : Type 1} → statement M
 band-near-spec =
-    tie.close
-    (tie.spec
-    (λ c κs. search needs) (λ c κs. search needs) (λ c κs. search needs) (λ c. search needs) (λ c κs. search needs) (λ c κs. search needs)
-    returns
-    (λ c κs. search needs)
-    returns-2
-    (λ c κs. search needs) (λ c κs. search needs) (λ c κs. search needs)
-    returns-3 returns-4 returns-5)
+    tie.close (tie.spec (λ c κs. search needs) (λ c κs. search needs) (λ c κs. search needs) (λ c. search needs) (λ c κs. search needs)
+    (λ c κs. search needs) returns (λ c κs. search needs) returns-2 (λ c κs. search needs) (λ c κs. search needs) (λ c κs. search needs) returns-3
+    returns-4 returns-5)

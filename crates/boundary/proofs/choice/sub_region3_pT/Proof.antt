@@ -15,6 +15,4 @@ unfolding letterRule
 returns-2 c = sym (turned-away (c .before .before .before .check-region3 .ensures) _ _ (c .before .k .given .1))
 
 pub sub-region3-pT-spec : {M : Type 1} → statement M
-sub-region3-pT-spec =
-    tie.close
-    (tie.spec (λ c κs. search needs) (λ c. search needs) (λ c κs. search needs) (λ c. search needs) returns returns-2)
+sub-region3-pT-spec = tie.close (tie.spec (λ c κs. search needs) (λ c. search needs) (λ c κs. search needs) (λ c. search needs) returns returns-2)

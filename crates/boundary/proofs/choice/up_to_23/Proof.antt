@@ -29,4 +29,6 @@ unfolding decimal whole scaled round ofBits
 returns-5 c h = rw (limit-is, c .before .before .before .before .if1 .left, c .before .before .before .if2 .left, c .before .before .if3 .left, c .before .if4 .left, ct-raw) (c .band-ct .ensures)
 
 pub up-to-23-spec : {M : Type 1} → statement M
-up-to-23-spec = tie.close (tie.spec (λ c κs. search needs) returns (λ c κs. search needs) returns-2 (λ c κs. search needs) returns-3 (λ c κs. search needs) returns-4 (λ c κs. search needs) returns-5)
+up-to-23-spec =
+    tie.close (tie.spec (λ c κs. search needs) returns (λ c κs. search needs) returns-2 (λ c κs. search needs) returns-3 (λ c κs. search needs)
+    returns-4 (λ c κs. search needs) returns-5)

@@ -25,4 +25,6 @@ unfolding decimal whole scaled round ofBits
 returns-4 c = rw (c .before .before .before .if1 .left, c .before .before .if2 .left, c .before .if3 .left) (c .up-to-23 .ensures (c .before .before .before .if1 .left))
 
 pub up-to-40-spec : {M : Type 1} → statement M
-up-to-40-spec = tie.close (tie.spec (λ c κs. search needs) returns (λ c κs. search needs) returns-2 (λ c κs. search needs) returns-3 (λ c κs. search needs) returns-4)
+up-to-40-spec =
+    tie.close (tie.spec (λ c κs. search needs) returns (λ c κs. search needs) returns-2 (λ c κs. search needs) returns-3 (λ c κs. search needs)
+    returns-4)

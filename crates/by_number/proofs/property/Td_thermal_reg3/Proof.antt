@@ -11,11 +11,8 @@ returns c = let k = c .before .before in arm _ _ (numbered properties (k .before
 
 pub Td-thermal-reg3-spec : {M : Type 1} → statement M
 Td-thermal-reg3-spec =
-    tie.close
-    (tie.spec
-    (λ c κs. tt) (λ c κs. tt) (λ c κs. tt) (λ c κs. tt) (λ c κs. tt) (λ c κs. tt) (λ c κs. tt) (λ c κs. tt) (λ c κs. tt) (λ c κs. tt)
-    (λ c κs. tt) (λ c κs. tt) (λ c κs. tt) (λ c κs. tt) (λ c κs. tt) (λ c κs. tt) (λ c κs. tt)
-    returns
+    tie.close (tie.spec (λ c κs. tt) (λ c κs. tt) (λ c κs. tt) (λ c κs. tt) (λ c κs. tt) (λ c κs. tt) (λ c κs. tt) (λ c κs. tt) (λ c κs. tt)
+    (λ c κs. tt) (λ c κs. tt) (λ c κs. tt) (λ c κs. tt) (λ c κs. tt) (λ c κs. tt) (λ c κs. tt) (λ c κs. tt) returns
     (λ c. let k = c .before .before in raw-arm _ _ (numbered properties (k .before .fits .o-id) (k .match .keys2) _ _) (c .settled .ensures) (c .before .raw-v .ensures))
     (λ c. let k = c .before .before in raw-arm _ _ (numbered properties (k .before .fits .o-id) (k .match .keys3) _ _) (c .settled2 .ensures) (c .before .raw-h .ensures))
     (λ c. let k = c .before .before in raw-arm _ _ (numbered properties (k .before .fits .o-id) (k .match .keys4) _ _) (c .settled3 .ensures) (c .before .raw-s .ensures))
@@ -24,5 +21,4 @@ Td-thermal-reg3-spec =
     (λ c. let k = c .before in arm-cp _ _ (numbered properties (k .before .fits .o-id) (k .match .keys7) _ _) (c .Td2cp-w-reg3 .ensures))
     (λ c. let k = c .before .before in raw-arm _ _ (numbered properties (k .before .fits .o-id) (k .match .keys8) _ _) (c .settled6 .ensures) (c .before .raw-cv .ensures))
     (λ c. let k = c .before in arm-w _ _ (numbered properties (k .before .fits .o-id) (k .match .keys9) _ _) (c .Td2cp-w-reg32 .ensures))
-    (λ c. let k = c .before in let a = k .before .args in c .later-property .ensures
-    ∙ sym (numbered later (k .before .fits .o-id) refl (a .t .0) (a .d .0)) ∙ beyond (take 9 properties) later (a .o-id) (a .t .0) (a .d .0) (k .match .rest)))
+    (λ c. let k = c .before in let a = k .before .args in c .later-property .ensures ∙ sym (numbered later (k .before .fits .o-id) refl (a .t .0) (a .d .0)) ∙ beyond (take 9 properties) later (a .o-id) (a .t .0) (a .d .0) (k .match .rest)))

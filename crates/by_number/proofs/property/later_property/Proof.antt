@@ -7,12 +7,10 @@ use Rattle.by_number.proofs.property.later_property.Tie as tie
 
 pub later-property-spec : {M : Type 1} → statement M
 later-property-spec =
-    tie.close
-    (tie.spec
-    (λ c κs. tt) (λ c κs. tt) (λ c κs. tt) (λ c κs. tt) (λ c κs. tt) (λ c κs. tt) (λ c κs. tt) (λ c κs. tt) (λ c κs. tt) (λ c κs. tt)
-    (λ c κs. tt) (λ c κs. tt) (λ c κs. tt) (λ c κs. tt) (λ c κs. tt) (λ c κs. tt) (λ c κs. tt) (λ c κs. tt) (λ c κs. tt) (λ c κs. tt)
-    (λ c κs. tt) (λ c κs. tt) (λ c κs. tt) (λ c κs. tt) (λ c κs. tt) (λ c κs. tt) (λ c κs. tt) (λ c κs. tt) (λ c κs. tt) (λ c κs. tt)
-    (λ c κs. tt) (λ c κs. tt)
+    tie.close (tie.spec (λ c κs. tt) (λ c κs. tt) (λ c κs. tt) (λ c κs. tt) (λ c κs. tt) (λ c κs. tt) (λ c κs. tt) (λ c κs. tt) (λ c κs. tt)
+    (λ c κs. tt) (λ c κs. tt) (λ c κs. tt) (λ c κs. tt) (λ c κs. tt) (λ c κs. tt) (λ c κs. tt) (λ c κs. tt) (λ c κs. tt) (λ c κs. tt) (λ c κs. tt)
+    (λ c κs. tt) (λ c κs. tt) (λ c κs. tt) (λ c κs. tt) (λ c κs. tt) (λ c κs. tt) (λ c κs. tt) (λ c κs. tt) (λ c κs. tt) (λ c κs. tt) (λ c κs. tt)
+    (λ c κs. tt)
     (λ c. let k = c .before .before in arm _ _ (numbered later (k .before .fits .o-id) (k .match .keys1) _ _) (c .answered .ensures) (c .before .state-ks .ensures))
     (λ c. let k = c .before .before in raw-arm _ _ (numbered later (k .before .fits .o-id) (k .match .keys2) _ _) (c .settled .ensures) (c .before .raw-f .ensures))
     (λ c. let k = c .before .before in raw-arm _ _ (numbered later (k .before .fits .o-id) (k .match .keys3) _ _) (c .settled2 .ensures) (c .before .raw-g .ensures))

@@ -7,4 +7,5 @@ returns : tie.Need-returns
 returns c = rw (c .upto5 .ensures, c .before .upto4 .ensures, c .before .before .upto3 .ensures, c .before .before .before .upto2 .ensures, c .before .before .before .before .upto .ensures)
 
 pub by-chijk-spec : {M : Type 1} → statement M
-by-chijk-spec = tie.close (tie.spec (λ c κs. search needs) (λ c κs. search needs) (λ c κs. search needs) (λ c κs. search needs) (λ c κs. search needs) returns)
+by-chijk-spec =
+    tie.close (tie.spec (λ c κs. search needs) (λ c κs. search needs) (λ c κs. search needs) (λ c κs. search needs) (λ c κs. search needs) returns)

@@ -4,4 +4,6 @@ use Rattle.choosers.proofs.letter_by.by_uvwx.Statement.{statement}
 use Rattle.choosers.proofs.letter_by.by_uvwx.Tie as tie
 
 pub by-uvwx-spec : {M : Type 1} → statement M
-by-uvwx-spec = tie.close (tie.spec (λ c κs. search needs) (λ c κs. search needs) (λ c κs. search needs) (λ c. rw (c .upto .ensures, c .before .under2 .ensures, c .before .before .under .ensures)))
+by-uvwx-spec =
+    tie.close (tie.spec (λ c κs. search needs) (λ c κs. search needs) (λ c κs. search needs)
+    (λ c. rw (c .upto .ensures, c .before .under2 .ensures, c .before .before .under .ensures)))

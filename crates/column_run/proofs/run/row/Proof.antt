@@ -12,5 +12,4 @@ returns c =
     rw (c .line-of .ensures, m .mark .ensures, s .stop .ensures) (row-is _ _ _ (o .origin-pT .ensures))
 
 pub row-spec : {M : Type 1} → statement M
-row-spec =
-    tie.close (tie.spec (λ c κs. search needs) (λ c κs. search needs) (λ c κs. search needs) (λ c κs. search needs) returns)
+row-spec = tie.close (tie.spec (λ c κs. search needs) (λ c κs. search needs) (λ c κs. search needs) (λ c κs. search needs) returns)

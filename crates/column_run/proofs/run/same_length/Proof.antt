@@ -5,9 +5,6 @@ use Rattle.column_run.proofs.run.same_length.Tie as tie
 
 pub same-length-spec : {M : Type 1} → statement M
 same-length-spec =
-    tie.close
-    (tie.spec
-    (λ c. rw (eq-eqb _ _ (c .before .before .if1 .taken), eq-eqb _ _ (c .before .if2 .taken), eq-eqb _ _ (c .if3 .taken)))
+    tie.close (tie.spec (λ c. rw (eq-eqb _ _ (c .before .before .if1 .taken), eq-eqb _ _ (c .before .if2 .taken), eq-eqb _ _ (c .if3 .taken)))
     (λ c. rw (eq-eqb _ _ (c .before .before .if1 .taken), eq-eqb _ _ (c .before .if2 .taken), ne-eqb _ _ (c .if3 .left)))
-    (λ c. rw (eq-eqb _ _ (c .before .if1 .taken), ne-eqb _ _ (c .if2 .left)))
-    (λ c. rw (ne-eqb _ _ (c .if1 .left))))
+    (λ c. rw (eq-eqb _ _ (c .before .if1 .taken), ne-eqb _ _ (c .if2 .left))) (λ c. rw (ne-eqb _ _ (c .if1 .left))))

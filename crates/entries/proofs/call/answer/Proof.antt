@@ -13,10 +13,8 @@ returns-4 c = rw (c .before .before .entry3 .given .1) (rw (toZ-ofZ w32 (c .befo
 pub answer-spec : {M : Type 1} → statement M
 unfolding replyRule
 answer-spec =
-    tie.close
-    (tie.spec
-    (λ c. search needs) (λ c κs. search needs) (λ c. search needs) (λ c κs. search needs) (λ c. search needs) (λ c κs. search needs)
-    (λ c. search needs) (λ c κs. search needs) (λ c. search needs) (λ c κs. search needs)
+    tie.close (tie.spec (λ c. search needs) (λ c κs. search needs) (λ c. search needs) (λ c κs. search needs) (λ c. search needs)
+    (λ c κs. search needs) (λ c. search needs) (λ c κs. search needs) (λ c. search needs) (λ c κs. search needs)
     (λ c. rw (c .before .enum-told .given .1) (c .refused .ensures))
     (λ c. rw (c .before .before .entry .given .1) (rw (toZ-ofZ w32 (c .before .before .before .before .args .n) (c .before .before .before .before .fits .n)) at (c .ones .ensures)))
     (λ c. rw (c .before .before .entry2 .given .1) (rw (toZ-ofZ w32 (c .before .before .before .before .args .n) (c .before .before .before .before .fits .n)) at (c .tens .ensures)))

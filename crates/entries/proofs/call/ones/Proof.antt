@@ -15,17 +15,14 @@ returns-3 c = rw (c .before .before .enum-told3 .given .1) (c .number-reply2 .en
 pub ones-spec : {M : Type 1} → statement M
 unfolding onesRule
 ones-spec =
-    tie.close
-    (tie.spec
-    (λ c. search needs) (λ c κs. search needs) (λ c. search needs) (λ c κs. search needs) (λ c κs. search needs) (λ c. search needs)
-    (λ c κs. search needs) (λ c κs. search needs) (λ c. search needs) (λ c κs. search needs) (λ c κs. search needs) (λ c. search needs)
-    (λ c κs. search needs) (λ c κs. search needs) (λ c. search needs) (λ c κs. search needs) (λ c κs. search needs) (λ c. search needs)
-    (λ c κs. search needs) (λ c κs. search needs) (λ c. search needs) (λ c κs. search needs) (λ c. search needs) (λ c κs. search needs)
-    (λ c κs. search needs) (λ c. search needs) (λ c κs. search needs)
+    tie.close (tie.spec (λ c. search needs) (λ c κs. search needs) (λ c. search needs) (λ c κs. search needs) (λ c κs. search needs)
+    (λ c. search needs) (λ c κs. search needs) (λ c κs. search needs) (λ c. search needs) (λ c κs. search needs) (λ c κs. search needs)
+    (λ c. search needs) (λ c κs. search needs) (λ c κs. search needs) (λ c. search needs) (λ c κs. search needs) (λ c κs. search needs)
+    (λ c. search needs) (λ c κs. search needs) (λ c κs. search needs) (λ c. search needs) (λ c κs. search needs) (λ c. search needs)
+    (λ c κs. search needs) (λ c κs. search needs) (λ c. search needs) (λ c κs. search needs)
     (λ c. rw (c .before .enum-told .given .1) (c .refused .ensures))
     (λ c. rw (c .before .before .enum-told2 .given .1) (c .number-reply .ensures ∙ ap numberReply (rw (toZ-ofZ w32 (c .before .before .before .before .args .n) (c .before .before .before .before .fits .n)) at (c .before .power .ensures))))
-    returns-3
-    (λ c. rw (c .before .before .enum-told4 .given .1) (c .number-reply3 .ensures ∙ ap numberReply (c .before .logarithm .ensures)))
+    returns-3 (λ c. rw (c .before .before .enum-told4 .given .1) (c .number-reply3 .ensures ∙ ap numberReply (c .before .logarithm .ensures)))
     (λ c. rw (c .before .before .enum-told5 .given .1) (c .number-reply4 .ensures ∙ ap numberReply (c .before .exponential .ensures)))
     (λ c. rw (c .before .before .enum-told6 .given .1) (c .number-reply5 .ensures ∙ ap numberReply (c .before .p-saturation .ensures)))
     (λ c. rw (c .before .before .enum-told7 .given .1) (c .number-reply6 .ensures ∙ ap numberReply (c .before .T-saturation .ensures)))

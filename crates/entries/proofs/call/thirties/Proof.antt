@@ -13,12 +13,9 @@ returns c = rw (c .before .before .enum-told .given .1) (c .row-reply .ensures �
 pub thirties-spec : {M : Type 1} → statement M
 unfolding thirtiesRule
 thirties-spec =
-    tie.close
-    (tie.spec
-    (λ c. search needs) (λ c κs. search needs) (λ c κs. search needs) (λ c. search needs) (λ c κs. search needs) (λ c. search needs)
-    (λ c κs. search needs) (λ c κs. search needs) (λ c. search needs) (λ c κs. search needs) (λ c κs. search needs) (λ c. search needs)
-    (λ c κs. search needs) (λ c κs. search needs) (λ c. search needs) (λ c κs. search needs) (λ c κs. search needs)
-    returns
+    tie.close (tie.spec (λ c. search needs) (λ c κs. search needs) (λ c κs. search needs) (λ c. search needs) (λ c κs. search needs)
+    (λ c. search needs) (λ c κs. search needs) (λ c κs. search needs) (λ c. search needs) (λ c κs. search needs) (λ c κs. search needs)
+    (λ c. search needs) (λ c κs. search needs) (λ c κs. search needs) (λ c. search needs) (λ c κs. search needs) (λ c κs. search needs) returns
     (λ c. rw (c .before .enum-told2 .given .1) (c .refused .ensures))
     (λ c. rw (c .before .before .enum-told3 .given .1) (c .cp-w-reply .ensures ∙ ap cpWReply (c .before .Td2cp-w-reg3 .ensures)))
     (λ c. rw (c .before .before .enum-told4 .given .1) (c .found-reply .ensures ∙ ap foundReply (c .before .pv2T-reg3 .ensures)))

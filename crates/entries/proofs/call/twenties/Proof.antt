@@ -16,15 +16,13 @@ returns-2 c = rw (c .before .before .enum-told2 .given .1) (c .record-reply2 .en
 pub twenties-spec : {M : Type 1} → statement M
 unfolding twentiesRule
 twenties-spec =
-    tie.close
-    (tie.spec
-    (λ c κs. search needs) (λ c. search needs) (λ c κs. search needs) (λ c κs. search needs) (λ c. search needs) (λ c κs. search needs)
-    (λ c κs. search needs) (λ c. search needs) (λ c κs. search needs) (λ c κs. search needs) (λ c. search needs) (λ c κs. search needs)
-    (λ c κs. search needs) (λ c. search needs) (λ c κs. search needs) (λ c κs. search needs) (λ c. search needs) (λ c κs. search needs)
-    (λ c κs. search needs) (λ c. search needs) (λ c κs. search needs) (λ c κs. search needs) (λ c. search needs) (λ c κs. search needs)
-    (λ c κs. search needs) (λ c. search needs) (λ c κs. search needs) (λ c κs. search needs) (λ c. search needs) (λ c κs. search needs)
-    (λ c. rw (c .before .before .enum-told .given .1) (c .record-reply .ensures ∙ ap recordReply (c .before .Td-reg3 .ensures)))
-    returns-2
+    tie.close (tie.spec (λ c κs. search needs) (λ c. search needs) (λ c κs. search needs) (λ c κs. search needs) (λ c. search needs)
+    (λ c κs. search needs) (λ c κs. search needs) (λ c. search needs) (λ c κs. search needs) (λ c κs. search needs) (λ c. search needs)
+    (λ c κs. search needs) (λ c κs. search needs) (λ c. search needs) (λ c κs. search needs) (λ c κs. search needs) (λ c. search needs)
+    (λ c κs. search needs) (λ c κs. search needs) (λ c. search needs) (λ c κs. search needs) (λ c κs. search needs) (λ c. search needs)
+    (λ c κs. search needs) (λ c κs. search needs) (λ c. search needs) (λ c κs. search needs) (λ c κs. search needs) (λ c. search needs)
+    (λ c κs. search needs)
+    (λ c. rw (c .before .before .enum-told .given .1) (c .record-reply .ensures ∙ ap recordReply (c .before .Td-reg3 .ensures))) returns-2
     (λ c. rw (c .before .before .enum-told3 .given .1) (c .record-reply3 .ensures ∙ ap recordReply (c .before .ph-reg3 .ensures)))
     (λ c. rw (c .before .before .enum-told4 .given .1) (c .record-reply4 .ensures ∙ ap recordReply (c .before .ps-reg3 .ensures)))
     (λ c. rw (c .before .before .enum-told5 .given .1) (c .record-reply5 .ensures ∙ ap recordReply (c .before .hs-reg3 .ensures)))

@@ -7,16 +7,12 @@ use Rattle.entries.specs.Numbers.{entryOf}
 use Rattle.entries.proofs.numbers.entry_of.Statement.{statement}
 use Rattle.entries.proofs.numbers.entry_of.Tie as tie
 
-thirties-of-requires : tie.Need-thirties-of-requires
-thirties-of-requires c κs = search needs
-
 pub entry-of-spec : {M : Type 1} → statement M
 unfolding entryOf
 entry-of-spec =
-    tie.close
-    (tie.spec
-    (λ c κs. search needs) (λ c. rw (lt-ltb _ _ (c .before .if1 .taken)) (ap Ones (c .ones-of .ensures)))
-    (λ c κs. search needs) (λ c. rw (le-ltb _ _ (c .before .before .if1 .left), lt-ltb _ _ (c .before .if2 .taken)) (ap Tens (c .tens-of .ensures)))
-    (λ c κs. search needs) (λ c. rw (le-ltb _ _ (c .before .before .before .if1 .left), le-ltb _ _ (c .before .before .if2 .left), lt-ltb _ _ (c .before .if3 .taken)) (ap Twenties (c .twenties-of .ensures)))
-    thirties-of-requires (λ c. rw (le-ltb _ _ (c .before .before .before .before .if1 .left), le-ltb _ _ (c .before .before .before .if2 .left), le-ltb _ _ (c .before .before .if3 .left), lt-ltb _ _ (c .before .if4 .taken)) (ap Thirties (c .thirties-of .ensures)))
+    tie.close (tie.spec (λ c κs. search needs) (λ c. rw (lt-ltb _ _ (c .before .if1 .taken)) (ap Ones (c .ones-of .ensures))) (λ c κs. search needs)
+    (λ c. rw (le-ltb _ _ (c .before .before .if1 .left), lt-ltb _ _ (c .before .if2 .taken)) (ap Tens (c .tens-of .ensures))) (λ c κs. search needs)
+    (λ c. rw (le-ltb _ _ (c .before .before .before .if1 .left), le-ltb _ _ (c .before .before .if2 .left), lt-ltb _ _ (c .before .if3 .taken)) (ap Twenties (c .twenties-of .ensures)))
+    (λ c κs. search needs)
+    (λ c. rw (le-ltb _ _ (c .before .before .before .before .if1 .left), le-ltb _ _ (c .before .before .before .if2 .left), le-ltb _ _ (c .before .before .if3 .left), lt-ltb _ _ (c .before .if4 .taken)) (ap Thirties (c .thirties-of .ensures)))
     (λ c. rw (le-ltb _ _ (c .before .before .before .if1 .left), le-ltb _ _ (c .before .before .if2 .left), le-ltb _ _ (c .before .if3 .left), le-ltb _ _ (c .if4 .left))))

@@ -20,6 +20,4 @@ returns-2 c =
     ∙ sym (ap (λ (x : FoundAnswer). foundReply (paperFound x)) (c .before .before .before .a2 .given .1))
 
 pub found-reply-spec : {M : Type 1} → statement M
-found-reply-spec =
-    tie.close
-    (tie.spec (λ c. search needs) (λ c. search needs) (λ c κs. search needs) (λ c κs. search needs) returns returns-2)
+found-reply-spec = tie.close (tie.spec (λ c. search needs) (λ c. search needs) (λ c κs. search needs) (λ c κs. search needs) returns returns-2)

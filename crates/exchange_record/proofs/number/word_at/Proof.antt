@@ -10,6 +10,4 @@ returns c =
     rw (c .before .half-at .ensures .0, c .half-at2 .ensures .0) (eight-bytes (a .s .now) (a .at) (search needs))
 
 pub word-at-spec : {M : Type 1} → statement M
-word-at-spec =
-    tie.close
-    (tie.spec (λ c κs. search needs) (λ c. search needs) (λ c. search needs) (λ c κs. search needs) (λ c. search needs) returns)
+word-at-spec = tie.close (tie.spec (λ c κs. search needs) (λ c. search needs) (λ c. search needs) (λ c κs. search needs) (λ c. search needs) returns)

@@ -41,7 +41,5 @@ returns-2 c = rw (c .finish .ensures) (ends _ _ (c .before .before .loop .inv .0
 
 pub read-spec : {M : Type 1} → statement M
 read-spec =
-    tie.close
-    (tie.spec
-    Inv-loop μ-loop loop-holds (λ c κs. search needs) (λ c. search needs) loop-less loop-again (λ c. search needs) returns (λ c κs. search needs)
-    returns-2)
+    tie.close (tie.spec Inv-loop μ-loop loop-holds (λ c κs. search needs) (λ c. search needs) loop-less loop-again (λ c. search needs) returns
+    (λ c κs. search needs) returns-2)

@@ -42,6 +42,5 @@ returns-5 c = rw (check-lost (c .before .before .args .p .i) (sym (c .before .is
 
 pub settle-four-spec : {M : Type 1} → statement M
 settle-four-spec =
-    tie.close
-    (tie.spec (λ c κs. search needs) (λ c κs. search needs) (λ c κs. search needs) (λ c κs. search needs) returns returns-2 returns-3 returns-4
-    returns-5)
+    tie.close (tie.spec (λ c κs. search needs) (λ c κs. search needs) (λ c κs. search needs) (λ c κs. search needs) returns returns-2 returns-3
+    returns-4 returns-5)

@@ -19,6 +19,4 @@ returns-2 c =
     ∙ sym (ap (λ (x : Answer). numberReply (paper x)) (c .before .before .before .a2 .given .1))
 
 pub number-reply-spec : {M : Type 1} → statement M
-number-reply-spec =
-    tie.close
-    (tie.spec (λ c. search needs) (λ c. search needs) (λ c κs. search needs) (λ c κs. search needs) returns returns-2)
+number-reply-spec = tie.close (tie.spec (λ c. search needs) (λ c. search needs) (λ c κs. search needs) (λ c κs. search needs) returns returns-2)

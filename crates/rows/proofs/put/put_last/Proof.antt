@@ -39,8 +39,5 @@ returns c =
 
 pub put-last-spec : {M : Type 1} → statement M
 put-last-spec =
-    tie.close
-    (tie.spec
-    (λ c. search needs) (λ c κs. search needs) (λ c. search needs)
-    put-number-requires (λ c. search needs)
-    put-number-requires-2 (λ c. search needs) returns)
+    tie.close (tie.spec (λ c. search needs) (λ c κs. search needs) (λ c. search needs) put-number-requires (λ c. search needs) put-number-requires-2
+    (λ c. search needs) returns)

@@ -95,6 +95,5 @@ returns-4 c = rw (sym (c .before .is-finite .ensures) ∙ c .if1 .left)
 
 pub exponential-spec : {M : Type 1} → statement M
 exponential-spec =
-    tie.close
-    (tie.spec (λ c κs. search needs) nearest-whole-requires signed-number-requires two-to-requires (λ c κs. search needs) (λ c κs. search needs)
-    returns returns-2 returns-3 returns-4)
+    tie.close (tie.spec (λ c κs. search needs) nearest-whole-requires signed-number-requires two-to-requires (λ c κs. search needs)
+    (λ c κs. search needs) returns returns-2 returns-3 returns-4)

@@ -71,6 +71,5 @@ returns-4 c =
 
 pub nearest-whole-spec : {M : Type 1} → statement M
 nearest-whole-spec =
-    tie.close
-    (tie.spec float-to-bits-b returns (λ c. search needs) (λ c. omega (arith, field c)) (λ c. search needs) (λ c. search needs) mul-rest sub-rest
-    (λ c. search needs) add-result add-result-2 returns-2 returns-3 returns-4)
+    tie.close (tie.spec float-to-bits-b returns (λ c. search needs) (λ c. omega (arith, field c)) (λ c. search needs) (λ c. search needs) mul-rest
+    sub-rest (λ c. search needs) add-result add-result-2 returns-2 returns-3 returns-4)

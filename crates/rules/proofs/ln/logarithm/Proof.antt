@@ -72,7 +72,6 @@ returns-5 c = ⊎-elim (λ e. rw e) (λ e. rw (e .1)) (lost (c .before .before .
 
 pub logarithm-spec : {M : Type 1} → statement M
 logarithm-spec =
-    tie.close
-    (tie.spec (λ c κs. search needs) unpack-requires (λ c. search needs) float-from-bits-ln-steps (λ c κs. search needs) (λ c κs. search needs)
-    (λ c κs. search needs) (λ c. search needs) float-from-bits-ln-steps-2 (λ c. search needs) (λ c κs. search needs) (λ c κs. search needs)
-    (λ c κs. search needs) returns returns-2 returns-3 returns-4 returns-5)
+    tie.close (tie.spec (λ c κs. search needs) unpack-requires (λ c. search needs) float-from-bits-ln-steps (λ c κs. search needs)
+    (λ c κs. search needs) (λ c κs. search needs) (λ c. search needs) float-from-bits-ln-steps-2 (λ c. search needs) (λ c κs. search needs)
+    (λ c κs. search needs) (λ c κs. search needs) returns returns-2 returns-3 returns-4 returns-5)

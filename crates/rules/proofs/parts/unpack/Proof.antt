@@ -39,6 +39,7 @@ returns-2 c =
     parts-suc (s .args .x) (held s) (s .pre) (c .if1 .left)
 
 pub unpack-spec : {M : Type 1} → statement M
-unpack-spec = tie.close (tie.spec float-to-bits-b (λ c. omega (arith, within c)) (λ c. omega (arith, within c)) (λ c. omega (arith, within c))
+unpack-spec =
+    tie.close (tie.spec float-to-bits-b (λ c. omega (arith, within c)) (λ c. omega (arith, within c)) (λ c. omega (arith, within c))
     (λ c. omega (arith, within c)) (λ c. omega (arith, within c)) (λ c. search needs)
     (λ c. omega (arith, bits-lt (c .before .args .x) (held (c .before)) (c .before .pre))) returns returns-2)

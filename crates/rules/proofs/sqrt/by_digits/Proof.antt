@@ -35,7 +35,8 @@ returns-2 c =
     down _ _ _ e (c .if2 .left) (above-0 _ _ _ e (c .if2 .left) (omega (arith, c .before .before .before .pre)))
 
 pub by-digits-spec : {M : Type 1} → statement M
-by-digits-spec = tie.close (tie.spec Inv-loop μ-loop (λ c. omega arith) loop-holds (λ c. omega (arith, bound _ _ _ _ _ (c .before .loop .inv)))
+by-digits-spec =
+    tie.close (tie.spec Inv-loop μ-loop (λ c. omega arith) loop-holds (λ c. omega (arith, bound _ _ _ _ _ (c .before .loop .inv)))
     (λ c. omega (arith, bound _ _ _ _ _ (c .before .loop .inv))) (λ c. omega arith) (λ c. omega (arith, bound _ _ _ _ _ (c .before .loop .inv)))
     (λ c. omega (arith, bound _ _ _ _ _ (c .before .loop .inv))) (λ c. omega (arith, bound _ _ _ _ _ (c .before .before .loop .inv)))
     (λ c. omega (arith, bound _ _ _ _ _ (c .before .before .loop .inv))) (λ c. omega arith)

@@ -39,6 +39,5 @@ returns c =
 
 pub positive-root-spec : {M : Type 1} → statement M
 positive-root-spec =
-    tie.close
-    (tie.spec (λ c κs. search needs) (λ c. search needs) (λ c. search needs) (λ c. search needs) near-root-requires
+    tie.close (tie.spec (λ c κs. search needs) (λ c. search needs) (λ c. search needs) (λ c. search needs) near-root-requires
     (λ c. omega (arith, digits c, c .before .before .before .before .unpack .ensures)) float-from-bits-result returns)

@@ -46,5 +46,5 @@ returns-5 c = rw (sym (c .before .is-finite .ensures) ∙ c .if1 .left)
 
 pub check-pv-spec : {M : Type 1} → statement M
 check-pv-spec =
-    tie.close
-    (tie.spec (λ c κs. search needs) (λ c κs. search needs) (λ c κs. search needs) (λ c κs. search needs) returns returns-2 returns-3 returns-4 returns-5)
+    tie.close (tie.spec (λ c κs. search needs) (λ c κs. search needs) (λ c κs. search needs) (λ c κs. search needs) returns returns-2 returns-3
+    returns-4 returns-5)

@@ -18,5 +18,4 @@ returns-2 c = let s = c .before .before in rw (sym (s .before .before .pv2T-reg3
 
 pub pv-reg3-spec : {M : Type 1} → statement M
 pv-reg3-spec =
-    tie.close
-    (tie.spec (λ c κs. search needs) (λ c. search needs) (λ c κs. search needs) (λ c. search needs) (λ c κs. search needs) returns returns-2)
+    tie.close (tie.spec (λ c κs. search needs) (λ c. search needs) (λ c κs. search needs) (λ c. search needs) (λ c κs. search needs) returns returns-2)

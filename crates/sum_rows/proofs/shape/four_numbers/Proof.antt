@@ -20,6 +20,4 @@ returns-2 c =
     ∙ sym (ap (λ (x : FourAnswer). fourReply (paperFour x)) (c .before .before .before .a2 .given .1))
 
 pub four-numbers-spec : {M : Type 1} → statement M
-four-numbers-spec =
-    tie.close
-    (tie.spec (λ c. search needs) (λ c. search needs) (λ c κs. search needs) (λ c κs. search needs) returns returns-2)
+four-numbers-spec = tie.close (tie.spec (λ c. search needs) (λ c. search needs) (λ c κs. search needs) (λ c κs. search needs) returns returns-2)

@@ -20,6 +20,4 @@ returns-2 c =
     ∙ sym (ap (λ (x : PairAnswer). twoReply (paperPair x)) (c .before .before .before .a2 .given .1))
 
 pub two-numbers-spec : {M : Type 1} → statement M
-two-numbers-spec =
-    tie.close
-    (tie.spec (λ c. search needs) (λ c. search needs) (λ c κs. search needs) (λ c κs. search needs) returns returns-2)
+two-numbers-spec = tie.close (tie.spec (λ c. search needs) (λ c. search needs) (λ c κs. search needs) (λ c κs. search needs) returns returns-2)

@@ -14,17 +14,14 @@ returns-3 c = rw (c .before .before .enum-told3 .given .1) (c .number-reply2 .en
 pub work-spec : {M : Type 1} → statement M
 unfolding replyRule
 work-spec =
-    tie.close
-    (tie.spec
-    (λ c. search needs) (λ c κs. search needs) (λ c. search needs) (λ c κs. search needs) (λ c κs. search needs) (λ c. search needs)
-    (λ c κs. search needs) (λ c κs. search needs) (λ c. search needs) (λ c κs. search needs) (λ c κs. search needs) (λ c. search needs)
-    (λ c κs. search needs) (λ c κs. search needs) (λ c. search needs) (λ c κs. search needs) (λ c κs. search needs) (λ c. search needs)
-    (λ c κs. search needs) (λ c κs. search needs) (λ c. search needs) (λ c κs. search needs) (λ c κs. search needs) (λ c. search needs)
-    (λ c κs. search needs) (λ c κs. search needs) (λ c. search needs) (λ c κs. search needs) (λ c κs. search needs) (λ c. search needs)
-    (λ c κs. search needs) (λ c κs. search needs) (λ c. search needs) (λ c κs. search needs) (λ c κs. search needs)
+    tie.close (tie.spec (λ c. search needs) (λ c κs. search needs) (λ c. search needs) (λ c κs. search needs) (λ c κs. search needs)
+    (λ c. search needs) (λ c κs. search needs) (λ c κs. search needs) (λ c. search needs) (λ c κs. search needs) (λ c κs. search needs)
+    (λ c. search needs) (λ c κs. search needs) (λ c κs. search needs) (λ c. search needs) (λ c κs. search needs) (λ c κs. search needs)
+    (λ c. search needs) (λ c κs. search needs) (λ c κs. search needs) (λ c. search needs) (λ c κs. search needs) (λ c κs. search needs)
+    (λ c. search needs) (λ c κs. search needs) (λ c κs. search needs) (λ c. search needs) (λ c κs. search needs) (λ c κs. search needs)
+    (λ c. search needs) (λ c κs. search needs) (λ c κs. search needs) (λ c. search needs) (λ c κs. search needs) (λ c κs. search needs)
     (λ c. rw (c .before .enum-told .given .1) (c .refused .ensures))
-    (λ c. rw (c .before .before .enum-told2 .given .1) (c .number-reply .ensures ∙ ap numberReply (c .before .poly-powi .ensures)))
-    returns-3
+    (λ c. rw (c .before .before .enum-told2 .given .1) (c .number-reply .ensures ∙ ap numberReply (c .before .poly-powi .ensures))) returns-3
     (λ c. rw (c .before .before .enum-told4 .given .1) (c .number-reply3 .ensures ∙ ap numberReply (c .before .poly-ii-powi .ensures)))
     (λ c. rw (c .before .before .enum-told5 .given .1) (c .number-reply4 .ensures ∙ ap numberReply (c .before .poly-ij-powi .ensures)))
     (λ c. rw (c .before .before .enum-told6 .given .1) (c .number-reply5 .ensures ∙ ap numberReply (c .before .poly-j-powi .ensures)))

@@ -13,5 +13,4 @@ unfolding stateAt
 returns-2 c = rw (← (c .before .before .before .origin-at .ensures), c .before .k .given .1)
 
 pub found-at-spec : {M : Type 1} → statement M
-found-at-spec =
-    tie.close (tie.spec (λ c κs. search needs) (λ c. search needs) (λ c κs. search needs) (λ c. search needs) returns returns-2)
+found-at-spec = tie.close (tie.spec (λ c κs. search needs) (λ c. search needs) (λ c κs. search needs) (λ c. search needs) returns returns-2)

@@ -16,5 +16,4 @@ returns-2 c = rw (c .before .enum-told .given .1) (c .found2 .ensures)
 
 pub found-by-spec : {M : Type 1} → statement M
 found-by-spec =
-    tie.close
-    (tie.spec (λ c. search needs) (λ c κs. search needs) (λ c κs. search needs) (λ c. search needs) (λ c κs. search needs) returns returns-2)
+    tie.close (tie.spec (λ c. search needs) (λ c κs. search needs) (λ c κs. search needs) (λ c. search needs) (λ c κs. search needs) returns returns-2)

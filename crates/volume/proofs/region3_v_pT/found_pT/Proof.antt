@@ -13,5 +13,4 @@ unfolding foundRule
 returns-2 c = rw (← (c .before .before .before .origin-pT .ensures), c .before .k .given .1)
 
 pub found-pT-spec : {M : Type 1} → statement M
-found-pT-spec =
-    tie.close (tie.spec (λ c κs. search needs) (λ c. search needs) (λ c κs. search needs) (λ c. search needs) returns returns-2)
+found-pT-spec = tie.close (tie.spec (λ c κs. search needs) (λ c. search needs) (λ c κs. search needs) (λ c. search needs) returns returns-2)

@@ -87,7 +87,5 @@ returns-5 c = sym (t-lost _ _ (sym (c .before .is-finite .ensures) ∙ c .if1 .l
 
 pub origin-at-spec : {M : Type 1} → statement M
 origin-at-spec =
-    tie.close
-    (tie.spec
-    (λ c κs. search needs) (λ c κs. search needs) (λ c κs. search needs) (λ c κs. search needs) returns (λ c κs. search needs) returns-2 returns-3
-    (λ c κs. search needs) returns-4 returns-5)
+    tie.close (tie.spec (λ c κs. search needs) (λ c κs. search needs) (λ c κs. search needs) (λ c κs. search needs) returns (λ c κs. search needs)
+    returns-2 returns-3 (λ c κs. search needs) returns-4 returns-5)

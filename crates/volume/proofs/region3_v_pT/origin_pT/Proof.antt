@@ -13,5 +13,4 @@ unfolding originRule
 returns-2 c = rw (← (c .before .before .before .check-region3 .ensures), c .before .k .given .1)
 
 pub origin-pT-spec : {M : Type 1} → statement M
-origin-pT-spec =
-    tie.close (tie.spec (λ c κs. search needs) (λ c. search needs) (λ c κs. search needs) (λ c. search needs) returns returns-2)
+origin-pT-spec = tie.close (tie.spec (λ c κs. search needs) (λ c. search needs) (λ c κs. search needs) (λ c. search needs) returns returns-2)

@@ -13,5 +13,4 @@ unfolding pT2v-at
 returns-2 c = rw (← (c .before .before .before .origin-at .ensures), c .before .k .given .1)
 
 pub pT2v-at-spec : {M : Type 1} → statement M
-pT2v-at-spec =
-    tie.close (tie.spec (λ c κs. search needs) (λ c. search needs) (λ c κs. search needs) (λ c. search needs) returns returns-2)
+pT2v-at-spec = tie.close (tie.spec (λ c κs. search needs) (λ c. search needs) (λ c κs. search needs) (λ c. search needs) returns returns-2)

@@ -16,5 +16,4 @@ returns-2 c = rw (← (c .before .before .before .check-pT .ensures), c .before 
 
 pub pT2v-reg3-spec : {M : Type 1} → statement M
 pT2v-reg3-spec =
-    tie.close
-    (tie.spec (λ c κs. search needs) (λ c. search needs) (λ c κs. search needs) (λ c κs. search needs) (λ c. search needs) returns returns-2)
+    tie.close (tie.spec (λ c κs. search needs) (λ c. search needs) (λ c κs. search needs) (λ c κs. search needs) (λ c. search needs) returns returns-2)

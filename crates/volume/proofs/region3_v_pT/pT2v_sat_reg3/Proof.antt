@@ -27,7 +27,5 @@ returns-2 c = sym (turned-away (c .before .before .before .check-pair .ensures) 
 
 pub pT2v-sat-reg3-spec : {M : Type 1} → statement M
 pT2v-sat-reg3-spec =
-    tie.close
-    (tie.spec
-    (λ c κs. search needs) (λ c. search needs) (λ c κs. search needs) (λ c κs. search needs) (λ c κs. search needs) (λ c. search needs) returns
-    returns-2)
+    tie.close (tie.spec (λ c κs. search needs) (λ c. search needs) (λ c κs. search needs) (λ c κs. search needs) (λ c κs. search needs)
+    (λ c. search needs) returns returns-2)

@@ -8,13 +8,9 @@ use Rattle.volume.proofs.region3_v_pT.saturated.Tie as tie
 pub saturated-spec : {M : Type 1} → statement M
 unfolding ofBits decimal scaled
 saturated-spec =
-    tie.close
-    (tie.spec
-    (λ c. search needs)
-    (λ c. rw (c .before .enum-told .given .1, c .if1 .taken))
+    tie.close (tie.spec (λ c. search needs) (λ c. rw (c .before .enum-told .given .1, c .if1 .taken))
     (λ c. rw (c .before .before .enum-told .given .1, c .before .if1 .left, c .if2 .taken))
-    (λ c. rw (c .before .before .before .enum-told .given .1, c .before .before .if1 .left, c .before .if2 .left, c .if3 .taken))
-    (λ c. search needs)
+    (λ c. rw (c .before .before .before .enum-told .given .1, c .before .before .if1 .left, c .before .if2 .left, c .if3 .taken)) (λ c. search needs)
     (λ c. rw (c .before .enum-told2 .given .1, c .if4 .taken))
     (λ c. rw (c .before .before .enum-told2 .given .1, c .before .if4 .left, c .if5 .taken))
     (λ c. rw (c .before .before .before .enum-told2 .given .1, c .before .before .if4 .left, c .before .if5 .left, c .if6 .taken))

@@ -16,5 +16,4 @@ returns-2 c = rw (c .before .enum-told .given .1) (c .settle2 .ensures)
 
 pub volume-from-spec : {M : Type 1} → statement M
 volume-from-spec =
-    tie.close
-    (tie.spec (λ c. search needs) (λ c κs. search needs) (λ c κs. search needs) (λ c. search needs) (λ c κs. search needs) returns returns-2)
+    tie.close (tie.spec (λ c. search needs) (λ c κs. search needs) (λ c κs. search needs) (λ c. search needs) (λ c κs. search needs) returns returns-2)

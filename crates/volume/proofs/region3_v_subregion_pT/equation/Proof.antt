@@ -10,12 +10,10 @@ use Rattle.volume.proofs.region3_v_subregion_pT.equation.Tie as tie
 pub equation-spec : {M : Type 1} → statement M
 unfolding ofBits decimal whole scaled
 equation-spec =
-    tie.close
-    (tie.spec
+    tie.close (tie.spec (λ c. search needs) (λ c. search needs) (λ c. search needs) (λ c. search needs) (λ c. search needs) (λ c. search needs)
     (λ c. search needs) (λ c. search needs) (λ c. search needs) (λ c. search needs) (λ c. search needs) (λ c. search needs) (λ c. search needs)
     (λ c. search needs) (λ c. search needs) (λ c. search needs) (λ c. search needs) (λ c. search needs) (λ c. search needs) (λ c. search needs)
-    (λ c. search needs) (λ c. search needs) (λ c. search needs) (λ c. search needs) (λ c. search needs) (λ c. search needs) (λ c. search needs)
-    (λ c. search needs) (λ c. search needs) (λ c. search needs) (λ c. search needs) (λ c. search needs)
+    (λ c. search needs) (λ c. search needs) (λ c. search needs) (λ c. search needs) (λ c. search needs) (λ c. search needs)
     (λ c. sym (ap equationOf (c .enum-told .given .1))) (λ c. sym (ap equationOf (c .enum-told2 .given .1)))
     (λ c. sym (ap equationOf (c .enum-told3 .given .1))) (λ c. sym (ap equationOf (c .enum-told4 .given .1)))
     (λ c. sym (ap equationOf (c .enum-told5 .given .1))) (λ c. sym (ap equationOf (c .enum-told6 .given .1)))
