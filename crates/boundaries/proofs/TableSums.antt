@@ -22,7 +22,7 @@ use Rattle.rules.specs.Log.{logarithmRule}
 use Rattle.rules.proofs.Powers.{power-looked}
 use Rattle.rules.proofs.Usual.{usual-raw}
 use Rattle.sizes.specs.Usual.{usualBase}
-use Rattle.boundaries.specs.Boundary.{Term, term, Argument, inP, inLn, Row, row, table, termRule, walkRule, at, rowAt, straight3ef}
+use Rattle.boundaries.specs.Boundary.{Term, term, inP, inLn, Row, row, table, termRule, walkRule, at, rowAt, straight3ef}
 use Rattle.boundaries.specs.Raw.{argumentIn, rawArgument, rawTerm, rawSum, rawTabled, rawStraight, bareTerm, bareSum, Bare}
 
 -- ---- powers with no look at them, where they are the rule's

@@ -1,6 +1,6 @@
 -- The rule of each band, every boundary checked as it is worked, is its boundaries worked raw and tested together. Assumes nothing.
 use Prim.Native.Nat.{ℕ}
-use mathlib.Core.Path.{_≡_, refl, ap, _∙_}
+use mathlib.Core.Path.{_≡_, refl}
 use mathlib.Core.Bool.{Bool, _&&_, cond}
 use lib.Dec.{T}
 use lib.Ieee.{Float}

@@ -1,10 +1,8 @@
 -- `rows::put::put_line` meets its contract: a row's number and its mark, then the refusal, of three digits at most. Assumes nothing.
-use Prim.Native.Nat.{_≤_}
 use native.Mathlib.Omega.{arith}
 use mathlib.Core.List.{append-assoc}
-use lib.ListN.{length, length-append}
+use lib.ListN.{length-append}
 use borrow.Author.Needs.{needs}
-use Rattle.text.specs.Text.{decimal}
 use Rattle.text.proofs.Laws.{wrote-then, decimal-length, decimal-room}
 use Rattle.rows.specs.Lines.{lineOf}
 use Rattle.rows.proofs.put.put_line.Statement.{statement}
