@@ -13,29 +13,14 @@ Inv-loop row out₀ letters densities refusals p t l d r k₀ out k = (k ≤ 5) 
 abbrev μ-loop : tie.MeasureT-loop
 μ-loop row out₀ letters densities refusals p t l d r k₀ out k = 5 - k
 
-array-share-prefix-ps : tie.Need-array-share-prefix-ps Inv-loop μ-loop
-array-share-prefix-ps c = search needs
-
-array-share-prefix-ts : tie.Need-array-share-prefix-ts Inv-loop μ-loop
-array-share-prefix-ts c = search needs
-
-array-borrow-prefix-letters : tie.Need-array-borrow-prefix-letters Inv-loop μ-loop
-array-borrow-prefix-letters c = search needs
-
-array-borrow-prefix-densities : tie.Need-array-borrow-prefix-densities Inv-loop μ-loop
-array-borrow-prefix-densities c = search needs
-
-array-borrow-prefix-refusals : tie.Need-array-borrow-prefix-refusals Inv-loop μ-loop
-array-borrow-prefix-refusals c = search needs
-
 pub columns-bytes-spec : {M : Type 1} → statement M
 columns-bytes-spec =
     tie.close (tie.spec Inv-loop μ-loop (λ c κs. search needs) (λ c κs. search needs) (λ c κs. search needs) (λ c κs. search needs)
-    (λ c κs. search needs) (λ c κs. search needs) (λ c κs. search needs) array-share-prefix-ps
-    (λ c. search (needs, length-take-le, array-share-prefix-ps (c .before))) array-share-prefix-ts
-    (λ c. search (needs, length-take-le, array-share-prefix-ts (c .before))) array-borrow-prefix-letters
-    (λ c. search (needs, length-take-le, array-borrow-prefix-letters (c .before))) array-borrow-prefix-densities
-    (λ c. search (needs, length-take-le, array-borrow-prefix-densities (c .before))) array-borrow-prefix-refusals
+    (λ c κs. search needs) (λ c κs. search needs) (λ c κs. search needs) (λ c. search needs)
+    (λ c. search (needs, length-take-le, array-share-prefix-ps (c .before))) (λ c. search needs)
+    (λ c. search (needs, length-take-le, array-share-prefix-ts (c .before))) (λ c. search needs)
+    (λ c. search (needs, length-take-le, array-borrow-prefix-letters (c .before))) (λ c. search needs)
+    (λ c. search (needs, length-take-le, array-borrow-prefix-densities (c .before))) (λ c. search needs)
     (λ c. search (needs, length-take-le, array-borrow-prefix-refusals (c .before))) (λ c κs. search needs) (λ c. search needs) (λ c. search needs)
     (λ c. search needs) (λ c. search needs) (λ c. search needs) (λ c. search needs) (λ c. search needs) (λ c. search needs) (λ c. search needs)
     (λ c. search needs) (λ c. search needs) (λ c. search needs) (λ c. search needs) (λ c κs. search needs) (λ c. search needs) (λ c. search needs)
