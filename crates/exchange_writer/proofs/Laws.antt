@@ -3,12 +3,12 @@ use mathlib.Core.Path.{_≡_, refl}
 use mathlib.Core.Bool.{Bool, true, false, cond}
 use mathlib.Core.List.{List}
 use Prim.Native.Nat.{ℕ, _≤_}
-use native.Mathlib.Omega.{arith}
 use lib.Dec.{ltb}
 use lib.ListN.{length}
 use lib.Seq.{sets}
 use borrow.Author.Tests.{ltb-false}
 use Rattle.common.specs.Outcome.{Outcome, value, refused}
+use Rattle.common.proofs.Calls.{no-value}
 use Rattle.exchange_entry.specs.declared.Point.{Point}
 use Rattle.exchange_entry.specs.declared.Point.the-variants as at
 use Rattle.exchange_writer.specs.Written.{recordOf, after, judgedIn}
@@ -19,9 +19,6 @@ record-length (at.TD t d) = refl
 record-length (at.PH p h) = refl
 record-length (at.PS p s) = refl
 record-length (at.HS h s) = refl
-
-pub no-value : {A : Type 0} {x : A} {k : ℕ} → _≡_ {A = Outcome A} (refused k) (value x) → ⊥
-no-value e = let z : _≡_ {A = ℕ} 0 1 = cc in omega arith
 
 -- what is accepted has room
 pub has-room : (n : ℕ) (o : Outcome Unit) (u : Unit) → judgedIn n o ≡ value u → 22 ≤ n

@@ -31,7 +31,8 @@ use Rattle.exchange_entry.specs.declared.Point.{Point}
 use Rattle.exchange_entry.specs.declared.Point.the-variants as at
 use Rattle.exchange_entry.specs.Call.{pointAt, pointOf, entryRule}
 use Rattle.exchange_writer.specs.Written.{high, numberField, twoFields, recordOf, roomRule, after, judgedIn, writeRule, askedFor}
-use Rattle.exchange_writer.proofs.Laws.{record-length, no-value, has-room, left, left-after}
+use Rattle.common.proofs.Calls.{no-value}
+use Rattle.exchange_writer.proofs.Laws.{record-length, has-room, left, left-after}
 
 -- ---- a number and its bytes, the high byte first
 
