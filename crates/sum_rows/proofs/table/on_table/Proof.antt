@@ -19,6 +19,24 @@ of-rows i n xs ys e f = cc
 of-columns : (s : Sum) (vi vj : Float) (is is' js js' : List ℤ) (ns ns' : List Float) → is ≡ is' → js ≡ js' → ns ≡ ns' → replyRule s vi vj is js ns ≡ replyRule s vi vj is' js' ns'
 of-columns s vi vj is is' js js' ns ns' e f g = cc
 
+array-share-prefix-is : tie.Need-array-share-prefix-is
+array-share-prefix-is c = search needs
+
+slice-aggregate-work : tie.Need-slice-aggregate-work
+slice-aggregate-work c = search (needs, length-take-le, array-share-prefix-is (c .before))
+
+array-share-prefix-js : tie.Need-array-share-prefix-js
+array-share-prefix-js c = search needs
+
+slice-aggregate-work-2 : tie.Need-slice-aggregate-work-2
+slice-aggregate-work-2 c = search (needs, length-take-le, array-share-prefix-js (c .before))
+
+array-share-prefix-ns : tie.Need-array-share-prefix-ns
+array-share-prefix-ns c = search needs
+
+slice-aggregate-work-3 : tie.Need-slice-aggregate-work-3
+slice-aggregate-work-3 c = search (needs, length-take-le, array-share-prefix-ns (c .before))
+
 returns : tie.Need-returns
 unfolding tableReply
 returns c =
@@ -32,7 +50,8 @@ returns c =
 
 pub on-table-spec : {M : Type 1} → statement M
 on-table-spec =
-    tie.close (tie.spec (λ c κs. search needs) (λ c κs. search needs) (λ c κs. search needs) (λ c κs. search needs) (λ c κs. search needs)
-    (λ c κs. search needs) (λ c. search needs) (λ c. search (needs, length-take-le, array-share-prefix-is (c .before))) (λ c. search needs)
-    (λ c. search (needs, length-take-le, array-share-prefix-js (c .before))) (λ c. search needs)
-    (λ c. search (needs, length-take-le, array-share-prefix-ns (c .before))) (λ c κs. search needs) returns)
+    tie.close
+    (tie.spec
+    (λ c κs. search needs) (λ c κs. search needs) (λ c κs. search needs) (λ c κs. search needs) (λ c κs. search needs) (λ c κs. search needs)
+    array-share-prefix-is slice-aggregate-work array-share-prefix-js slice-aggregate-work-2 array-share-prefix-ns slice-aggregate-work-3
+    (λ c κs. search needs) returns)
