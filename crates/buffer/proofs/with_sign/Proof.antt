@@ -1,4 +1,4 @@
--- `buffer::with_sign` meets its contract. Assumes nothing.
+-- `buffer::with_sign` meets its contract: below 2^31 the number itself, above it less 2^32. Assumes nothing.
 use mathlib.Core.Path.{_≡_}
 use Prim.Native.Nat.{ℕ, suc, _-_, _^_, _<_, _≤_}
 use native.Mathlib.Omega.{arith}

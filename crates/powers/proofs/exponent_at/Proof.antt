@@ -1,4 +1,4 @@
--- `powers::exponent_at` meets its contract. Assumes nothing.
+-- `powers::exponent_at` meets its contract: the place less 64. Assumes nothing.
 use mathlib.Core.Path.{_≡_, refl, ap}
 use mathlib.Core.Bool.{Bool, true, false}
 use Prim.Native.Nat.{ℕ, _^_, _<_}

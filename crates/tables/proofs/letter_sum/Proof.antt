@@ -1,4 +1,4 @@
--- `tables::letter_sum` meets its contract. Assumes nothing.
+-- `tables::letter_sum` meets its contract: one arm for each letter, each the sum of its own table. Assumes nothing.
 use borrow.Author.Needs.{needs}
 use Rattle.tables.proofs.letter_sum.Statement.{statement}
 use Rattle.tables.proofs.letter_sum.Tie as tie

@@ -1,4 +1,4 @@
--- `boundaries::temperatures::argument` meets its contract. Assumes nothing.
+-- `boundaries::temperatures::argument` meets its contract: p, or ln p by the rule. Assumes nothing.
 use borrow.Author.Needs.{needs}
 use Rattle.boundaries.proofs.temperatures.argument.Statement.{statement}
 use Rattle.boundaries.proofs.temperatures.argument.Tie as tie

@@ -1,4 +1,5 @@
--- `boundary::choice::band_cq_rk` meets its contract. Assumes nothing.
+-- `boundary::choice::band_cq_rk` meets its contract: first that no boundary is lost, then c or q below and r or k above, and what lies between.
+-- Assumes nothing.
 use mathlib.Core.Bool.{cond}
 use mathlib.Core.Path.{_≡_}
 use mathlib.Core.List.{[], _∷_}

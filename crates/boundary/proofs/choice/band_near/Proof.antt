@@ -1,4 +1,4 @@
--- `boundary::choice::band_near` meets its contract. Assumes nothing.
+-- `boundary::choice::band_near` meets its contract: first that no boundary is lost, then the three ranges of p. Assumes nothing.
 use mathlib.Core.Path.{_≡_, refl, sym, _∙_}
 use mathlib.Core.Bool.{true, false, cond}
 use mathlib.Core.List.{[], _∷_}

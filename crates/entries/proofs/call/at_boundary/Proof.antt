@@ -1,4 +1,4 @@
--- `entries::call::at_boundary` meets its contract. Assumes nothing.
+-- `entries::call::at_boundary` meets its contract: a number that names a boundary, or 255. Assumes nothing.
 use mathlib.Core.Path.{_≡_, sym, ap, _∙_}
 use mir.Syntax.{w32}
 use mir.ValLaws.{toZ-ofZ}

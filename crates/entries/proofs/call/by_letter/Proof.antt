@@ -1,4 +1,4 @@
--- `entries::call::by_letter` meets its contract. Assumes nothing.
+-- `entries::call::by_letter` meets its contract: a number that names a letter, or 255. Assumes nothing.
 use mathlib.Core.Path.{_≡_, sym, ap, _∙_}
 use mir.Syntax.{w32}
 use mir.ValLaws.{toZ-ofZ}

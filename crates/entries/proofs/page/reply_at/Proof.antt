@@ -1,4 +1,4 @@
--- `entries::reply_at` meets its contract. Assumes nothing.
+-- `entries::reply_at` meets its contract: the four parts of a row are read where they lie. Assumes nothing.
 use mathlib.Core.Path.{_≡_, ap, _∙_}
 use lib.IntN.{ℤ}
 use lib.Ieee.{Float}

@@ -1,4 +1,4 @@
--- `entries::shape::found_reply` meets its contract. Assumes nothing.
+-- `entries::shape::found_reply` meets its contract: a number with the count of trials beside it, or zeros beside the refusal. Assumes nothing.
 use mathlib.Core.Path.{sym, ap, _∙_}
 use lib.Ieee.{ofBits}
 use Rattle.reply.specs.Shape.{refusedBy}

@@ -1,4 +1,4 @@
--- `exchange::bytes::asked_bytes` meets its contract. Assumes nothing.
+-- `exchange::bytes::asked_bytes` meets its contract: the pair, its two numbers, and the entry's own 88 bytes. Assumes nothing.
 use mathlib.Core.Path.{refl, ap, _∙_}
 use mathlib.Core.List.{List, [], _∷_, _++_}
 use Prim.Native.Nat.{ℕ, _*_}

@@ -1,4 +1,4 @@
--- `exchange::bytes::reply` meets its contract. Assumes nothing.
+-- `exchange::bytes::reply` meets its contract: the reader's refusal, or the bytes of what was asked. Assumes nothing.
 use borrow.Author.Needs.{needs}
 use Rattle.common.specs.Outcome.{value, refused}
 use Rattle.exchange.proofs.bytes.reply.Statement.{statement}

@@ -1,4 +1,4 @@
--- `record::origin_byte` meets its contract. Assumes nothing.
+-- `record::origin_byte` meets its contract: a letter's byte, or 0 at the critical point. Assumes nothing.
 use mathlib.Core.Path.{sym, ap, _∙_}
 use borrow.Author.Needs.{needs}
 use Rattle.record.specs.Record.{byteOf}

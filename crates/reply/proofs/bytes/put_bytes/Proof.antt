@@ -1,4 +1,4 @@
--- `reply::bytes::put_bytes` meets its contract. Assumes nothing.
+-- `reply::bytes::put_bytes` meets its contract: the head, then the ten numbers, eight bytes each. Assumes nothing.
 use mathlib.Core.Path.{_≡_, refl, ap, _∙_}
 use mathlib.Core.List.{List}
 use Prim.Native.Nat.{ℕ, _+_, _-_, _*_, _≤_}

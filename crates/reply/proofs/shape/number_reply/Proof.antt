@@ -1,4 +1,4 @@
--- `reply::shape::number_reply` meets its contract. Assumes nothing.
+-- `reply::shape::number_reply` meets its contract: a number, or zeros beside the refusal. Assumes nothing.
 use mathlib.Core.Path.{sym, ap, _∙_}
 use lib.Ieee.{ofBits}
 use Rattle.common.specs.Answer.{paper}

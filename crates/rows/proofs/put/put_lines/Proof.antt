@@ -1,4 +1,4 @@
--- `rows::put::put_lines` meets its contract. Assumes nothing.
+-- `rows::put::put_lines` meets its contract: the loop keeps the lines of the rows passed, and `row` is the last one's number. Assumes nothing.
 use mathlib.Core.Path.{_≡_, refl, sym, _∙_, subst}
 use Prim.Native.Nat.{ℕ, _+_, _*_, _-_, _≤_}
 use native.Mathlib.Nat.{le-antisymm, add-zero}

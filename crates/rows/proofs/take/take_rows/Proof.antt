@@ -1,4 +1,4 @@
--- `rows::take::take_rows` meets its contract. Assumes nothing.
+-- `rows::take::take_rows` meets its contract: the loop keeps both columns up to the row reached. Assumes nothing.
 use mathlib.Core.Path.{_≡_, refl, ap, _∙_}
 use mathlib.Core.List.{List}
 use Prim.Native.Nat.{ℕ, _+_, _*_, _-_, _≤_}
