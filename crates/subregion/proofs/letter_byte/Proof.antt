@@ -9,5 +9,8 @@ use Rattle.subregion.proofs.letter_byte.Tie as tie
 returns : tie.Need-returns
 returns c = c .ascii .ensures ∙ sym (ap (λ (x : LetterAnswer). byteIn (paperLetter x)) (c .before .before .c .given .1))
 
+returns-2 : tie.Need-returns-2
+returns-2 c = search needs
+
 pub letter-byte-spec : {M : Type 1} → statement M
-letter-byte-spec = tie.close (tie.spec (λ c. search needs) (λ c κs. search needs) (λ c. search needs) returns (λ c. search needs))
+letter-byte-spec = tie.close (tie.spec (λ c. search needs) (λ c κs. search needs) (λ c. search needs) returns returns-2)

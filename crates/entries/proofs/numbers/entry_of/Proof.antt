@@ -7,6 +7,11 @@ use Rattle.entries.specs.Numbers.{entryOf}
 use Rattle.entries.proofs.numbers.entry_of.Statement.{statement}
 use Rattle.entries.proofs.numbers.entry_of.Tie as tie
 
+returns-5 : tie.Need-returns-5
+unfolding entryOf
+returns-5 c =
+    rw (le-ltb _ _ (c .before .before .before .if1 .left), le-ltb _ _ (c .before .before .if2 .left), le-ltb _ _ (c .before .if3 .left), le-ltb _ _ (c .if4 .left))
+
 pub entry-of-spec : {M : Type 1} → statement M
 unfolding entryOf
 entry-of-spec =
@@ -15,4 +20,4 @@ entry-of-spec =
     (λ c. rw (le-ltb _ _ (c .before .before .before .if1 .left), le-ltb _ _ (c .before .before .if2 .left), lt-ltb _ _ (c .before .if3 .taken)) (ap Twenties (c .twenties-of .ensures)))
     (λ c κs. search needs)
     (λ c. rw (le-ltb _ _ (c .before .before .before .before .if1 .left), le-ltb _ _ (c .before .before .before .if2 .left), le-ltb _ _ (c .before .before .if3 .left), lt-ltb _ _ (c .before .if4 .taken)) (ap Thirties (c .thirties-of .ensures)))
-    (λ c. rw (le-ltb _ _ (c .before .before .before .if1 .left), le-ltb _ _ (c .before .before .if2 .left), le-ltb _ _ (c .before .if3 .left), le-ltb _ _ (c .if4 .left))))
+    returns-5)
