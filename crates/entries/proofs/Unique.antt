@@ -9,15 +9,10 @@ use denote.Triple.Clauses.{AtExit}
 use borrow.Fn.Kinds.{Dens, endedOf, resT}
 use Rattle.common.proofs.Same.{One}
 use Rattle.entries.specs.Rows.{repliesTo}
-use Rattle.entries.proofs.numbers.entry_of.Kinds as entry-of-kinds
-use Rattle.entries.proofs.numbers.entry_of.Reads as entry-of
 use Rattle.entries.proofs.call.answer.Kinds as answer-kinds
 use Rattle.entries.proofs.call.answer.Reads as answer
 use Rattle.entries.proofs.page.answer_rows.Kinds as answer-rows-kinds
 use Rattle.entries.proofs.page.answer_rows.Reads as answer-rows
-
-pub entry-of-one : One 0 entry-of-kinds.ps entry-of-kinds.r entry-of.Post
-entry-of-one κs a e x y p q = p ∙ sym q
 
 pub answer-one : One 0 answer-kinds.ps answer-kinds.r answer.Post
 answer-one κs a e x y p q = p ∙ sym q

@@ -27,16 +27,16 @@ use Rattle.column_run.specs.Columns.{rowRule}
 use Rattle.search.specs.Calls as search
 use Rattle.reply.specs.declared.Reply.{Reply}
 use Rattle.reply.specs.Shape.{numberReply, letterReply, recordReply}
-use Rattle.entries.specs.declared.Entry.{Entry}
-use Rattle.entries.specs.declared.Entry.the-variants as entry
-use Rattle.entries.specs.declared.Ones.{Ones}
-use Rattle.entries.specs.declared.Ones.the-variants as one
-use Rattle.entries.specs.declared.Tens.{Tens}
-use Rattle.entries.specs.declared.Tens.the-variants as ten
-use Rattle.entries.specs.declared.Twenties.{Twenties}
-use Rattle.entries.specs.declared.Twenties.the-variants as twenty
-use Rattle.entries.specs.declared.Thirties.{Thirties}
-use Rattle.entries.specs.declared.Thirties.the-variants as thirty
+use Rattle.entry_numbers.specs.declared.Entry.{Entry}
+use Rattle.entry_numbers.specs.declared.Entry.the-variants as entry
+use Rattle.entry_numbers.specs.declared.Ones.{Ones}
+use Rattle.entry_numbers.specs.declared.Ones.the-variants as one
+use Rattle.entry_numbers.specs.declared.Tens.{Tens}
+use Rattle.entry_numbers.specs.declared.Tens.the-variants as ten
+use Rattle.entry_numbers.specs.declared.Twenties.{Twenties}
+use Rattle.entry_numbers.specs.declared.Twenties.the-variants as twenty
+use Rattle.entry_numbers.specs.declared.Thirties.{Thirties}
+use Rattle.entry_numbers.specs.declared.Thirties.the-variants as thirty
 use Rattle.entries.specs.Named.{rowReply, cpWReply, foundReply, searchedReply, unknown, placeOf, named}
 
 -- a boundary by its number

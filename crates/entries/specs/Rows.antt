@@ -3,7 +3,7 @@ use Prim.Native.Nat.{ℕ, _+_, _*_, _/_, min}
 use mathlib.Core.List.{List}
 use lib.ListN.{length, getD}
 use Rattle.buffer.specs.Bytes.{joined, intIn, floatIn}
-use Rattle.entries.specs.Numbers.{entryOf}
+use Rattle.entry_numbers.specs.Numbers.{entryOf}
 use Rattle.entries.specs.Entries.{replyRule}
 use Rattle.reply.specs.declared.Reply.{Reply}
 use Rattle.reply.specs.Bytes.{replyBytes}

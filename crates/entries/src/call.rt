@@ -1,9 +1,4 @@
 // What each entry answers, ten by ten: a call of the library, and its answer's shape. Before them the three whose whole number names something.
-use crate::Entry;
-use crate::Ones;
-use crate::Tens;
-use crate::Thirties;
-use crate::Twenties;
 use crate::shape::UNKNOWN;
 use crate::shape::cp_w_reply;
 use crate::shape::found_reply;
@@ -19,6 +14,11 @@ use common::Kelvin;
 use common::KgPerM3;
 use common::M3PerKg;
 use common::MPa;
+use entry_numbers::Entry;
+use entry_numbers::Ones;
+use entry_numbers::Tens;
+use entry_numbers::Thirties;
+use entry_numbers::Twenties;
 use record::blank;
 use reply::Reply;
 use reply::letter_reply;

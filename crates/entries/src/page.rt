@@ -1,10 +1,10 @@
 // From rows of 24 bytes to replies of 88.
 use crate::answer;
-use crate::entry_of;
 use buffer::byte_at;
 use buffer::float_at;
 use buffer::int_at;
 use common::least;
+use entry_numbers::entry_of;
 use reply::Reply;
 use reply::put_reply;
 ghost use mathlib.Core.Path.{_≡_};

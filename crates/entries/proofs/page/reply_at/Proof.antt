@@ -5,8 +5,8 @@ use lib.Ieee.{Float}
 use mir.Syntax.{w32}
 use mir.Val.{toZ, ofZ}
 use mir.ValLaws.{toZ-ofZ}
-use Rattle.entries.specs.declared.Entry.{Entry}
-use Rattle.entries.specs.Numbers.{entryOf}
+use Rattle.entry_numbers.specs.declared.Entry.{Entry}
+use Rattle.entry_numbers.specs.Numbers.{entryOf}
 use Rattle.entries.specs.Entries.{replyRule}
 use Rattle.entries.specs.Rows.{replyAt}
 use borrow.Author.Needs.{needs}

@@ -6,12 +6,12 @@ use crate::Thirties;
 use crate::Twenties;
 ghost use mathlib.Core.Path.{_≡_};
 ghost use Prim.Native.Nat.{_<_};
-ghost use Rattle.entries.specs.Numbers.{ones, tens, twenties, thirties, entryOf};
+ghost use Rattle.entry_numbers.specs.Numbers.{ones, tens, twenties, thirties, entryOf};
 ghost use lib.ListN.{getD};
-ghost use Rattle.entries.specs.declared.Ones.the-variants as one;
-ghost use Rattle.entries.specs.declared.Tens.the-variants as ten;
-ghost use Rattle.entries.specs.declared.Twenties.the-variants as twenty;
-ghost use Rattle.entries.specs.declared.Thirties.the-variants as thirty;
+ghost use Rattle.entry_numbers.specs.declared.Ones.the-variants as one;
+ghost use Rattle.entry_numbers.specs.declared.Tens.the-variants as ten;
+ghost use Rattle.entry_numbers.specs.declared.Twenties.the-variants as twenty;
+ghost use Rattle.entry_numbers.specs.declared.Thirties.the-variants as thirty;
 
 fn ones_of(k: usize) -> Ones
     requires { ⌜ k < 10 ⌝ }

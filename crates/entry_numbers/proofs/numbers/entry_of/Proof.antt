@@ -1,11 +1,11 @@
--- `entries::numbers::entry_of` meets its contract: each branch is a side of the definition's tests.
+-- `entry_numbers::numbers::entry_of` meets its contract: each branch is a side of the definition's tests.
 use mathlib.Core.Path.{ap}
 use borrow.Author.Needs.{needs}
 use borrow.Author.Tests.{lt-ltb, le-ltb}
-use Rattle.entries.specs.declared.Entry.the-variants.{Ones, Tens, Twenties, Thirties}
-use Rattle.entries.specs.Numbers.{entryOf}
-use Rattle.entries.proofs.numbers.entry_of.Statement.{statement}
-use Rattle.entries.proofs.numbers.entry_of.Tie as tie
+use Rattle.entry_numbers.specs.declared.Entry.the-variants.{Ones, Tens, Twenties, Thirties}
+use Rattle.entry_numbers.specs.Numbers.{entryOf}
+use Rattle.entry_numbers.proofs.numbers.entry_of.Statement.{statement}
+use Rattle.entry_numbers.proofs.numbers.entry_of.Tie as tie
 
 returns-5 : tie.Need-returns-5
 unfolding entryOf

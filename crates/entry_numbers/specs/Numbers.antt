@@ -4,16 +4,16 @@ use mathlib.Core.Bool.{cond}
 use mathlib.Core.List.{List, [], _∷_}
 use lib.Dec.{ltb}
 use lib.ListN.{getD}
-use Rattle.entries.specs.declared.Entry.{Entry}
-use Rattle.entries.specs.declared.Entry.the-variants as entry
-use Rattle.entries.specs.declared.Ones.{Ones}
-use Rattle.entries.specs.declared.Ones.the-variants as one
-use Rattle.entries.specs.declared.Tens.{Tens}
-use Rattle.entries.specs.declared.Tens.the-variants as ten
-use Rattle.entries.specs.declared.Twenties.{Twenties}
-use Rattle.entries.specs.declared.Twenties.the-variants as twenty
-use Rattle.entries.specs.declared.Thirties.{Thirties}
-use Rattle.entries.specs.declared.Thirties.the-variants as thirty
+use Rattle.entry_numbers.specs.declared.Entry.{Entry}
+use Rattle.entry_numbers.specs.declared.Entry.the-variants as entry
+use Rattle.entry_numbers.specs.declared.Ones.{Ones}
+use Rattle.entry_numbers.specs.declared.Ones.the-variants as one
+use Rattle.entry_numbers.specs.declared.Tens.{Tens}
+use Rattle.entry_numbers.specs.declared.Tens.the-variants as ten
+use Rattle.entry_numbers.specs.declared.Twenties.{Twenties}
+use Rattle.entry_numbers.specs.declared.Twenties.the-variants as twenty
+use Rattle.entry_numbers.specs.declared.Thirties.{Thirties}
+use Rattle.entry_numbers.specs.declared.Thirties.the-variants as thirty
 
 abbrev pub ones : List Ones
 ones = one.Unnamed ∷ one.Power ∷ one.Root ∷ one.Logarithm ∷ one.Exponential ∷ one.PSaturation ∷ one.TSaturation ∷ one.Boundary ∷ one.Letter ∷ one.LetterVolume ∷ []
