@@ -36,12 +36,15 @@ function owners(text, owner,    lines, n, i, line, indent, name, state) {
     return n
 }
 
-# The one function that a change changes, as its path: the one in whose body it stands, or that alone reads the constant.
+# The one function that a change changes, as its path: the one in whose body it stands, or that alone reads the constant; or in
+# whose contract, where the edit says that contract and body change alike.
 function changes(file, text, at,    owner, lines, n, line, row, found, name, other, users) {
     if (file !~ /^src\//) return ""
     owners(text, owner)
     line = split(substr(text, 1, at), lines, "\n")
     if (owner[line] ~ /^body /) return module(file) "::" substr(owner[line], 6)
+    name = module(file) "::" substr(owner[line], 6)
+    if (owner[line] ~ /^head / && name in alike) return name
     if (owner[line] !~ /^const /) return ""
     name = "(^|[^A-Za-z_0-9])" substr(owner[line], 7) "([^A-Za-z_0-9]|$)"
     for (other = 1; other <= sources; other++) {
@@ -93,6 +96,10 @@ function read_edit(    line, file, old, new, at, text, name, part, count, i) {
                 if (name in listed) fault(name " is listed twice")
                 else { listed[name] = 1; list[++names] = name }
             }
+        } else if (line ~ /^# *alike: [^ ]+ in [^ ]+$/) {
+            count = split(line, part, " ")
+            alike[part[count - 2]] = part[count]
+            listed[part[count]] = 1; list[++names] = part[count]
         } else if (line ~ /^# *one change/) together = 1
         else if (index(line, "file: ") == 1) file = substr(line, 7)
         else if (index(line, "old: ") == 1) old = substr(line, 6)
@@ -193,8 +200,9 @@ BEGIN {
     if (shared && pairs > 1 && !together)
         fault("a pair changes what is no function's body (a constant, a type, a contract or a definition), which stands in an edit of its own, or with '# one change'")
     if (!shared && names) {
-        for (name in edited) if (!(name in listed)) fault(name " is changed, and no line '# refused:' names it")
-        for (i = 1; i <= names; i++) if (!(list[i] in edited)) fault(list[i] " is named, and no pair changes its body")
+        for (name in edited) if (!(name in listed) && !(name in alike)) fault(name " is changed, and no line '# refused:' names it")
+        for (name in alike) { answered[alike[name]] = 1; if (!(name in edited)) fault(name " is said to change alike, and no pair changes it") }
+        for (i = 1; i <= names; i++) if (!(list[i] in edited) && !(list[i] in answered)) fault(list[i] " is named, and no pair changes its body")
     }
     if (log_file == "") { if (!failed) passed = names }
     else if (names) {

@@ -105,25 +105,20 @@ def wanted():
     """For each crate its pins: the definition, where it stands and its number."""
     out = {}
     volumes = text("r3/region3_v_subregion_pT.rs")
-    for crate in ("a_g", "h_m", "n_t", "u_z"):
-        first, last = crate.split("_")
-        letters = [chr(c) for c in range(ord(first), ord(last) + 1)]
-        out["tables_" + crate] = [("table3" + c, pin_rows(rows_of(function(volumes, "pT2v_3" + c)))) for c in letters]
+    printed = [("table3" + c, pin_rows(rows_of(function(volumes, "pT2v_3" + c)))) for c in "abcdefghijklmnopqrstuvwxyz"]
     phps = text("r3/region3_Tv_phps.rs")
     hs = text("r3/region3_p_hs.rs")
-    backward = []
     for pair in ("ph", "ps"):
         for what in ("T", "v"):
             for side in ("a", "b"):
-                backward.append((f"table-{what.lower()}3{side}-{pair}", pin_rows(rows_of(function(phps, f"{pair}2{what}_3{side}_reg3")))))
+                printed.append((f"table-{what.lower()}3{side}-{pair}", pin_rows(rows_of(function(phps, f"{pair}2{what}_3{side}_reg3")))))
     for side in ("a", "b"):
-        backward.append((f"table-p3{side}-hs", pin_rows(rows_of(function(hs, f"hs2p3{side}_reg3")))))
-    out["backward_tables"] = backward
+        printed.append((f"table-p3{side}-hs", pin_rows(rows_of(function(hs, f"hs2p3{side}_reg3")))))
     hfe = text("r3/region3_hfe.rs")
     first = float(re.search(r"const n1: f64 = ([-+0-9.eE]+);", hfe).group(1))
-    out["helmholtz"] = [("table30", pin_rows(rows_of(hfe))), ("n1", pin_numbers([first]))]
+    out["printed"] = printed + [("table30", pin_rows(rows_of(hfe))), ("n1", pin_numbers([first]))]
     lines = text("r3/region3_v_pT.rs")
-    out["boundary"] = [("table", pin_boundaries(boundary(lines, b) for b in re.findall(r"const I(3[a-z]{2}):", lines)))]
+    out["boundaries"] = [("table", pin_boundaries(boundary(lines, b) for b in re.findall(r"const I(3[a-z]{2}):", lines)))]
     out["r4"] = [("table34", pin_numbers(numbers(text("r4/region4_sat_pT.rs"), "n")))]
     return out
 
@@ -137,14 +132,16 @@ use lib.Ieee.{Float}
 use Rattle.common.specs.Decimal.{plus, minus, scaled}
 """
 
-# what a crate's pins need beside that, and how a pin of each name is written
+# what a crate's pins need beside that
 MORE = {
-    "helmholtz": """use Rattle.common.proofs.Pin.{pinFrom, pinNumbers}
+    "printed": """use Rattle.common.proofs.Pin.{pinFrom, pinNumbers}
 use Rattle.algo.proofs.Pin.{pinRows}
-use Rattle.helmholtz.specs.Table30.{n1, table30}
+use Rattle.printed.specs.Volumes.{VOLUMES}
+use Rattle.printed.specs.Backward.{BACKWARD}
+use Rattle.printed.specs.Table30.{n1, table30}
 """,
-    "boundary": """use Rattle.common.proofs.Pin.{mix, shifted, mixFloat, pinFrom}
-use Rattle.boundary.specs.Boundary.{Term, term, Argument, inP, inLn, Row, row, NAMES}
+    "boundaries": """use Rattle.common.proofs.Pin.{mix, shifted, mixFloat, pinFrom}
+use Rattle.boundaries.specs.Boundary.{Term, term, Argument, inP, inLn, Row, row, table}
 
 abbrev mixTerm : ℕ → Term → ℕ
 mixTerm h (term i n) = mixFloat (mix h (shifted i)) n
@@ -170,24 +167,28 @@ table34 =
     valueIn n1 ∷ valueIn n2 ∷ valueIn n3 ∷ valueIn n4 ∷ valueIn n5 ∷ valueIn n6 ∷ valueIn n7 ∷ valueIn n8 ∷ valueIn n9 ∷ valueIn n10 ∷ []
 """,
 }
-TABLES = """use Rattle.common.proofs.Pin.{pinFrom}
-use Rattle.algo.proofs.Pin.{pinRows}
-use Rattle.CRATE.specs.Printed.{NAMES}
-"""
 
 
-def line_of(name, pin):
-    """A pin's statement."""
+def statement(name, pin):
     said = {"n1": "pinNumbers (n1 ∷ [])", "table34": "pinNumbers table34"}.get(name, f"pinRows {name}")
-    return f"pub {name}-pin : {said} ≡ {pin}\n"
+    return f"{said} ≡ {pin}"
+
+
+def theorem(name, pins):
+    """The pins of one document as one statement, a line each."""
+    said = [statement(*pin) for pin in pins]
+    head = f" {said[0]}" if len(said) == 1 else "\n    " + "\n    × ".join(f"({one})" for one in said)
+    unfold = "".join(" " + n for n, _ in pins if n not in ("n1", "table34"))
+    proof = "refl" if len(said) == 1 else f"({', '.join('refl' for _ in said)})"
+    return f"\npub {name}-pin :{head}\nunfolding pinFrom plus minus scaled{unfold}\n{name}-pin = {proof}\n"
 
 
 def file_of(crate, pins):
-    s = HEAD + MORE.get(crate, TABLES).replace("CRATE", crate).replace("NAMES", ", ".join(n for n, _ in pins))
-    for n, p in pins:
-        unfold = "" if n in ("n1", "table34") else " " + n
-        s += f"\n{line_of(n, p)}unfolding pinFrom plus minus scaled{unfold}\n{n}-pin = refl\n"
-    return s
+    if crate != "printed":
+        return HEAD + MORE[crate] + "".join(theorem(n, [(n, p)]) for n, p in pins)
+    documents = {"volumes": pins[:26], "backward": pins[26:-2], "table30": pins[-2:]}
+    names = {d: ", ".join(n for n, _ in some) for d, some in documents.items()}
+    return HEAD + MORE[crate].replace("VOLUMES", names["volumes"]).replace("BACKWARD", names["backward"]) + "".join(theorem(d, some) for d, some in documents.items())
 
 
 def main():
@@ -198,7 +199,7 @@ def main():
         if "--check" in sys.argv[1:]:
             old = open(path, encoding="utf8").read() if os.path.exists(path) else ""
             for n, p in pins:
-                if line_of(n, p) not in old:
+                if not re.search(re.escape(statement(n, p)) + r"\b", old):
                     print(f"{crate}: {n} is not {p}")
                     bad += 1
             print(f"{crate}: {len(pins)} pins")

@@ -1,16 +1,13 @@
 #!/usr/bin/env python3
-"""The stored list of the four written rules: crates/replay/data/rules.bin, records of 112 bytes (a row of 24 and its reply of 88).
+"""The rows of the four written rules, and of numbers that name no entry, for answer_rows.py: records of 112 bytes, a row of 24 and its reply of 88.
 
 The answers are worked here, from docs/SCOPE.md's words alone: the root by whole numbers (math.isqrt), the other rules by the same
 rounded operations on Python's floats, which are IEEE doubles. Nothing of the port or of the oracle is read.
-The last rows also make crates/answers/stdin and stdout: two pages, and a rest that is not answered.
 """
 import math
 import random
 import struct
-from pathlib import Path
 
-REPOSITORY = Path(__file__).resolve().parent.parent
 L = 0.6931471805599453
 TOP = 0x7FF0000000000000
 SIGN = 0x8000000000000000
@@ -219,15 +216,3 @@ def records():
     for entry in (0, 17, 29, 31, 32, 33, 38, 255):
         out.append(row(entry, draw.randrange(-(2**31), 2**31), bits(draw.uniform(0.0, 100.0)), bits(650.0)) + reply(255, 0.0))
     return out
-
-
-def main():
-    out = records()
-    few = out[:: len(out) // 700]
-    (REPOSITORY / "crates/answers/stdin").write_bytes(b"".join(r[:24] for r in few) + few[0][:23])
-    (REPOSITORY / "crates/answers/stdout").write_bytes(b"".join(r[24:] for r in few))
-    print("answers", len(few))
-
-
-if __name__ == "__main__":
-    main()

@@ -1,16 +1,14 @@
 #!/usr/bin/env python3
-"""The stored list of the table sums: crates/check_sums/data/tables.bin and rows.bin, and the stdout that `check_sums` must write.
+"""Writes what the program `check_sums` is given and must write: crates/check_sums/stdin and stdout.
 
 The answers are worked here, from docs/SCOPE.md's words and the formulas of the Rust's algo/polynomial.rs and polynomial_steps.rs, by the
 same rounded operations on Python's floats, which are IEEE doubles; the power is rules_rows.py's. Nothing of the port is read.
 The three real tables are parsed from the Rust's text, found beside the repository at ../shared/docs/src or where SEUIF97_SRC says.
 
-A table is 1040 bytes: the lengths of its columns I, J and n in the first three, then from byte 16 on 64 whole numbers I, 64 whole numbers
-J and 64 f64 n. A row is 56 bytes: the table, the sum and the refusal in the first three, then from byte 8 on vi, vj and four f64, the
-answer's numbers and +0.0 for the rest. The little end is first.
-
-Some rows differ on purpose, so that `check_sums` has to find them, and stdout counts them by sum: for each sum four rows of which one bit of
-the stored answer is turned over (over the sums, every byte of an answer), one row of a table that does not exist; and one row of no sum.
+stdin has 96 tables, the last of them empty, and then the rows. A table is 1040 bytes: the lengths of its columns I, J and n in the first three,
+then from byte 16 on 64 whole numbers I, 64 whole numbers J and 64 f64 n. A row is 24 bytes: the table and the sum in the first two, then from
+byte 8 on vi and vj. The little end is first. stdout has a reply of 88 bytes for each row, as `answers` has them: the refusal, and from byte 8 on
+the numbers. For each sum one row names a table that does not exist, and one row names no sum: 255.
 """
 import math
 import os
@@ -263,8 +261,12 @@ def table_bytes(table):
     return struct.pack(f"<3B13x{MOST}i{MOST}i{MOST}d", *lengths, *i, *j, *n)
 
 
-def row_bytes(table, which, vi, vj, refusal, numbers):
-    return struct.pack("<3B5x6d", table, which, refusal, vi, vj, *numbers, *[0.0] * (4 - len(numbers)))
+def row_bytes(table, which, vi, vj):
+    return struct.pack("<2B6x2d", table, which, vi, vj)
+
+
+def reply_bytes(refusal, numbers):
+    return struct.pack("<B7x10d", refusal, *numbers, *[0.0] * (10 - len(numbers)))
 
 
 def listed():
@@ -285,50 +287,27 @@ def listed():
     return tables, asked
 
 
-# where a row has its answer: the refusal, and four numbers
-ANSWER = (2, *range(24, 56))
-SPOILED, NAMED, NO_TABLE = 4, 10, 200
-
-
-def spoiled(rows):
-    """The rows of one sum after the other, with those that differ on purpose, and the places of these."""
-    out, wrong, byte = [], [], 0
-    for of_sum in rows:
-        start = len(out)
-        out += of_sum
-        for k in range(SPOILED):
-            i = start + (2 * k + 1) * len(of_sum) // (2 * SPOILED)
-            row = bytearray(out[i])
-            row[ANSWER[byte % len(ANSWER)]] ^= 1 << byte % 8
-            out[i] = bytes(row)
-            wrong.append(i)
-            byte += 1
-        wrong.append(len(out))
-        out.append(bytes((NO_TABLE,)) + of_sum[0][1:])
-    wrong.append(len(out))
-    out.append(out[0][:1] + bytes((len(SUMS),)) + out[0][2:])
-    assert byte >= len(ANSWER)
-    return out, wrong
+ROOM, NO_TABLE, UNKNOWN = 96, 200, 255
 
 
 def main():
     tables, asked = listed()
-    assert len(tables) <= 96, len(tables)
-    rows, refusals = [], {}
+    assert len(tables) <= ROOM, len(tables)
+    rows, replies = [], []
+
+    def add(table, which, vi, vj, refusal, numbers):
+        rows.append(row_bytes(table, which, vi, vj))
+        replies.append(reply_bytes(refusal, numbers))
+
     for which, f in enumerate(SUMS):
-        rows.append([])
         for table, vi, vj in asked:
-            refusal, numbers = answered(f, vi, vj, tables[table])
-            refusals[refusal] = refusals.get(refusal, 0) + 1
-            rows[-1].append(row_bytes(table, which, vi, vj, refusal, numbers))
-    stored, wrong = spoiled(rows)
-    (REPOSITORY / "crates/check_sums/data/tables.bin").write_bytes(b"".join(map(table_bytes, tables)))
-    (REPOSITORY / "crates/check_sums/data/rows.bin").write_bytes(b"".join(stored))
-    lines = [f"differs: row {i + 1}" for i in wrong[:NAMED]]
-    lines += [f"{f.__name__}_powi rows {len(asked) + 1} differ {SPOILED + 1}" for f in SUMS]
-    lines += [f"rows {len(stored)} differ {len(wrong)} left 0", ""]
-    (REPOSITORY / "crates/check_sums/stdout").write_text("\n".join(lines))
-    print("tables", len(tables), "rows", len(stored), "spoiled", len(wrong), "refusals", dict(sorted(refusals.items())))
+            add(table, which, vi, vj, *answered(f, vi, vj, tables[table]))
+        add(NO_TABLE, which, *asked[0][1:], UNKNOWN, [])
+    add(asked[0][0], len(SUMS), *asked[0][1:], UNKNOWN, [])
+    crate = REPOSITORY / "crates/check_sums"
+    (crate / "stdin").write_bytes(b"".join(map(table_bytes, tables + [by_rows([])] * (ROOM - len(tables)))) + b"".join(rows))
+    (crate / "stdout").write_bytes(b"".join(replies))
+    print("tables", len(tables), "rows", len(rows), "refused", sum(reply[0] > 0 for reply in replies))
 
 
 if __name__ == "__main__":

@@ -2,9 +2,9 @@
 use mathlib.Core.Path.{_≡_, refl, sym, _∙_}
 use mathlib.Core.Logic.{_⊎_, inl, inr, ⊎-elim}
 use mathlib.Core.List.{List, [], _∷_}
-use Prim.Native.Nat.{ℕ, zero, suc, _+_, _-_, _^_, _<_, _≤_}
+use Prim.Native.Nat.{ℕ, _+_, _^_, _<_, _≤_, min}
 use native.Mathlib.Numerals.{add-one}
-use native.Mathlib.Omega.{arith}
+use native.Mathlib.Omega.{arith, min-cases}
 use lib.IntN.{ℤ, pos}
 use lib.ListN.{length, getD, drop, drop-of-length-le}
 use lib.Seq.{drop-cons}
@@ -32,11 +32,6 @@ pub one-more : (u : Row → Float) (s : Float) (is js : List ℤ) (ns : List Flo
 unfolding rawTotal rowsOf
 one-more u s is js ns k h = rw (add-one, drop-cons is k (pos 0) (h .i), drop-cons js k (pos 0) (h .j), drop-cons ns k nan (h .n))
 
-either : (a b : ℕ) → (a ≤ b) ⊎ (b ≤ a)
-either zero b = inl (omega arith)
-either (suc a) zero = inr (omega arith)
-either (suc a) (suc b) = ⊎-elim (λ (h : a ≤ b). inl (omega arith)) (λ (h : b ≤ a). inr (omega arith)) (either a b)
-
 -- ---- columns of any lengths, to the end of the shortest
 
 no-j : (is : List ℤ) (ns : List Float) → rowsOf is [] ns ≡ []
@@ -51,9 +46,8 @@ no-n (i ∷ is) [] = refl
 no-n (i ∷ is) (j ∷ js) = refl
 
 -- the less of a and b is no more than k
-less-of : (a b r k : ℕ) → r ≡ a - (a - b) → r ≤ k → (a ≤ k) ⊎ (b ≤ k)
-less-of a b r k e l =
-    ⊎-elim (λ (h : a ≤ b). inl (omega arith)) (λ (h : b ≤ a). inr (omega arith)) (either a b)
+less-of : (a b r k : ℕ) → r ≡ min a b → r ≤ k → (a ≤ k) ⊎ (b ≤ k)
+less-of a b r k e l = min-cases a b _ (λ h m. inl (omega arith)) (λ h m. inr (omega arith))
 
 -- n is the least of three lengths
 pub record Shortest (a b c n : ℕ) : Type 0 where
@@ -62,7 +56,7 @@ pub record Shortest (a b c n : ℕ) : Type 0 where
   pub third : n ≤ c
   pub one : (k : ℕ) → n ≤ k → (a ≤ k) ⊎ ((b ≤ k) ⊎ (c ≤ k))
 
-pub shortest : (a b c m n : ℕ) → m ≡ a - (a - b) → n ≡ m - (m - c) → Shortest a b c n
+pub shortest : (a b c m n : ℕ) → m ≡ min a b → n ≡ min m c → Shortest a b c n
 shortest a b c m n e f = record {
   first = omega arith;
   second = omega arith;
@@ -86,12 +80,8 @@ module _ (u : Row → Float) (s : Float) (is js : List ℤ) (ns : List Float) (n
       (z .one k h)
 
   -- a part that would go past the end ends there
-  pub cut-short : (k : ℕ) → rawTotal u s (rowsFrom is js ns (n - (n - k))) ≡ rawTotal u s (rowsFrom is js ns k)
-  cut-short k =
-      ⊎-elim
-      (λ (h : k ≤ n). let m : n - (n - k) ≡ k = omega arith in rw m)
-      (λ (h : n ≤ k). none-after (n - (n - k)) (omega arith) ∙ sym (none-after k h))
-      (either k n)
+  pub cut-short : (k : ℕ) → rawTotal u s (rowsFrom is js ns (min n k)) ≡ rawTotal u s (rowsFrom is js ns k)
+  cut-short k = min-cases n k _ (λ h m. none-after (min n k) (omega arith) ∙ sym (none-after k h)) (λ h m. rw m)
 
 -- a signed number that is passed on crosses to its bits and back
 pub back : (z : ℤ) → mag z < 2 ^ 31 → toZ w32 (ofZ w32 z) ≡ z

@@ -10,8 +10,8 @@ use Rattle.common.specs.Outcome.{Outcome, value, refused, finite, check, then, 
 use Rattle.common.specs.Sum.{total}
 use Rattle.common.proofs.Laws.{check-kept, inside-check}
 use Rattle.rules.specs.Power.{powerRule}
-use Rattle.rules.specs.RawPower.{keptPower}
-use Rattle.rules.proofs.Powers.{power-kept}
+use Rattle.rules.specs.RawPower.{lookedPower}
+use Rattle.rules.proofs.Powers.{power-looked}
 use Rattle.algo.specs.Table.{Row, row, raised, fallen, factor, differentiated, term, sumRule}
 use Rattle.algo.specs.Raw.{rawFallen}
 use Rattle.algo.specs.Joint.{timesWhole, weigh, over, divided, shared, shareRule}
@@ -40,7 +40,7 @@ then-settled (refused n) f h k = h
 
 power-by : (b c : Bool) (a : Float) (n : ℤ) → finite a ≡ b → leb (natAbs n) 64 ≡ c → Settled (inside (powerRule a n))
 unfolding powerRule
-power-by true true a n p q = rw (power-kept a n p q, inside-check (keptPower a n)) (check-settled (keptPower a n))
+power-by true true a n p q = rw (power-looked a n p q, inside-check (lookedPower a n)) (check-settled (lookedPower a n))
 power-by true false a n p q = rw (p, q)
 power-by false c a n p q = rw p
 

@@ -2,23 +2,16 @@
 -- Assumes nothing.
 use mathlib.Core.Path.{sym, _∙_}
 use Rattle.common.proofs.Same.{One}
-use Rattle.algo.proofs.both_usual.Kinds as both-usual-kinds
-use Rattle.algo.proofs.both_usual.Reads as both-usual
-use Rattle.algo.proofs.checked_once.Kinds as checked-once-kinds
-use Rattle.algo.proofs.checked_once.Reads as checked-once
-use Rattle.algo.proofs.gated.Kinds as gated-kinds
-use Rattle.algo.proofs.gated.Reads as gated
-use Rattle.algo.proofs.plain_sum.Kinds as plain-sum-kinds
-use Rattle.algo.proofs.plain_sum.Reads as plain-sum
+use Rattle.algo.proofs as algo
 
-pub both-usual-one : One 0 both-usual-kinds.ps both-usual-kinds.r both-usual.Post
+pub both-usual-one : One 0 algo.both_usual.Kinds.ps algo.both_usual.Kinds.r algo.both_usual.Reads.Post
 both-usual-one κs a e x y p q = p ∙ sym q
 
-pub checked-once-one : One 0 checked-once-kinds.ps checked-once-kinds.r checked-once.Post
+pub checked-once-one : One 0 algo.checked_once.Kinds.ps algo.checked_once.Kinds.r algo.checked_once.Reads.Post
 checked-once-one κs a e x y p q = p ∙ sym q
 
-pub gated-one : One 0 gated-kinds.ps gated-kinds.r gated.Post
+pub gated-one : One 0 algo.gated.Kinds.ps algo.gated.Kinds.r algo.gated.Reads.Post
 gated-one κs a e x y p q = p ∙ sym q
 
-pub plain-sum-one : One 5 plain-sum-kinds.ps plain-sum-kinds.r plain-sum.Post
+pub plain-sum-one : One 5 algo.plain_sum.Kinds.ps algo.plain_sum.Kinds.r algo.plain_sum.Reads.Post
 plain-sum-one κs a e x y p q = p .is ∙ sym (q .is)

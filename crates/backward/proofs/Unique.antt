@@ -1,4 +1,4 @@
--- Each contract admits one answer. Assumes nothing.
+-- Each contract admits one answer.
 use mathlib.Core.Path.{_≡_, refl, ap}
 use Rattle.common.specs.Outcome.{Outcome, value, refused}
 use Rattle.common.proofs.Same.{One, same, same-answer, kindOf, kind-number}

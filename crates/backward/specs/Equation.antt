@@ -7,7 +7,7 @@ use Rattle.common.specs.Outcome.{Outcome, value}
 use Rattle.common.specs.Decimal.{decimal, whole}
 use Rattle.algo.specs.Table.{Row}
 use Rattle.algo.specs.Table.{sumOf}
-use Rattle.backward_tables.specs.Printed.{table-t3a-ph, table-t3b-ph, table-v3a-ph, table-v3b-ph, table-t3a-ps, table-t3b-ps, table-v3a-ps, table-v3b-ps, table-p3a-hs, table-p3b-hs}
+use Rattle.printed.specs.Backward.{table-t3a-ph, table-t3b-ph, table-v3a-ph, table-v3b-ph, table-t3a-ps, table-t3b-ps, table-v3a-ps, table-v3b-ps, table-p3a-hs, table-p3b-hs}
 use Rattle.backward.specs.declared.Equation.{Equation}
 use Rattle.backward.specs.declared.Equation.the-variants.{T3aPh, T3bPh, V3aPh, V3bPh, T3aPs, T3bPs, V3aPs, V3bPs, P3aHs, P3bHs}
 use Rattle.backward.specs.declared.Form.{Form}

@@ -8,7 +8,7 @@ use powers::fill_bare;
 ghost use mathlib.Core.Path.{_≡_};
 ghost use Rattle.common.specs.Outcome.{orNan};
 ghost use Rattle.algo.specs.Table.{sumRule, term};
-ghost use Rattle.backward_tables.specs.Printed.{table-t3a-ph, table-t3b-ph, table-v3a-ph, table-v3b-ph, table-t3a-ps, table-t3b-ps, table-v3a-ps, table-v3b-ps, table-p3a-hs, table-p3b-hs};
+ghost use Rattle.printed.specs.Backward.{table-t3a-ph, table-t3b-ph, table-v3a-ph, table-v3b-ph, table-t3a-ps, table-t3b-ps, table-v3a-ps, table-v3b-ps, table-p3a-hs, table-p3b-hs};
 
 // T3a(p,h)
 const IT3A_PH: [i32; 31] = [

@@ -1,8 +1,7 @@
 -- For a p of the box no step of the border's temperature is lost: the border is n4 and the root of a number above 0, and lies from n4 + 50 to n4 + 300. So
 -- the test against it refuses with 8 or not at all. Assumes nothing.
-use mathlib.Core.Path.{_≡_, refl, sym, ap, _∙_}
-use Prim.Native.Nat.{ℕ, zero, suc}
-use native.Mathlib.Omega.{arith}
+use mathlib.Core.Path.{_≡_, refl, ap, _∙_}
+use Prim.Native.Nat.{zero, suc}
 use mathlib.Core.Bool.{Bool, true, false, cond}
 use lib.Dec.{T}
 use lib.Ieee.{Float, nan, inf, fin, binary64, round, neg, sum, add, sub, mul, div, fits, le, lt, eq}
@@ -12,6 +11,7 @@ use Rattle.common.specs.Outcome.{Outcome, value, refused, finite, then, orNan}
 use Rattle.common.specs.Decimal.{whole, decimal, scaled, plus}
 use Rattle.common.specs.Constant.{P-FROM, P-TO, T-FROM, T-TO}
 use Rattle.common.specs.Range.{within, pTBox}
+use Rattle.common.proofs.Calls.{no-value}
 use Rattle.common.proofs.Laws.{check-kept}
 use Rattle.rules.specs.Units as units
 use Rattle.rules.specs.Units.{inUnits}
@@ -126,15 +126,12 @@ module _ (p : Float) (from : T (le P-FROM p)) (to : T (le p P-TO)) where
 
 -- ---- the box
 
-no-value : (n : ℕ) → _≡_ {A = Outcome Unit} (refused n) (value tt) → ⊥
-no-value n e = let z : _≡_ {A = ℕ} 0 1 = cc in omega arith
-
 boxed : (f g w v : Bool) → _≡_ {A = Outcome Unit} (cond f (cond g (cond w (cond v (value tt) (refused 3)) (refused 2)) (refused 1)) (refused 1)) (value tt) → T w × T v
 boxed true true true true e = (tt, tt)
-boxed true true true false e = absurd (no-value 3 e)
-boxed true true false v e = absurd (no-value 2 e)
-boxed true false w v e = absurd (no-value 1 e)
-boxed false g w v e = absurd (no-value 1 e)
+boxed true true true false e = absurd (no-value e)
+boxed true true false v e = absurd (no-value e)
+boxed true false w v e = absurd (no-value e)
+boxed false g w v e = absurd (no-value e)
 
 pub record InBox (p t : Float) : Type 0 where
   pub p-from : T (le P-FROM p)

@@ -10,7 +10,7 @@ use lib.Ieee.{Float, nan, inf, fin, binary64, up, down, round, sum, add, sub, di
 use lib.Ieee.Bits.{is-true}
 use lib.Ieee.Fits.{up-pos}
 use lib.Ieee.Order.{round-mono}
-use lib.Ieee.Positive.{num, den, den-pos, positive, above, above-of-le, first-pos, le→cross, cross→le, le-trans-positive}
+use lib.Ieee.Positive.{num, den, den-pos, positive, above-of-le, first-pos, le→cross, cross→le, le-trans-positive}
 
 -- ---- the operations, as rounded fractions
 
@@ -70,15 +70,12 @@ num-pos (inf s) p = absurd p
 num-pos (fin true m e) p = absurd p
 num-pos (fin false m e) p = mul-pos (ltb→lt 0 m p) (up-pos e)
 
-less : (p q r s : ℕ) → p ≤ r → s ≤ q → p - q ≤ r - s
-less p q r s e h = omega arith
-
 grown : (X dx X' dx' Y dy : ℕ) → X * dx' ≤ X' * dx → (X * dy - Y * dx) * (dx' * dy) ≤ (X' * dy - Y * dx') * (dx * dy)
 grown X dx X' dx' Y dy h =
     let a : dx' * dy * (X * dy) ≤ dx * dy * (X' * dy) = omega (arith, mul-le-mul-right (dy * dy) h) in
     let b : dx * dy * (Y * dx') ≤ dx' * dy * (Y * dx) = omega arith in
     le-trans (le-of-eq (mul-comm (X * dy - Y * dx) (dx' * dy) ∙ mul-sub (dx' * dy) (X * dy) (Y * dx)))
-    (le-trans (less (dx' * dy * (X * dy)) (dx' * dy * (Y * dx)) (dx * dy * (X' * dy)) (dx * dy * (Y * dx')) a b)
+    (le-trans (omega arith)
     (le-of-eq (sym (mul-comm (X' * dy - Y * dx') (dx * dy) ∙ mul-sub (dx * dy) (X' * dy) (Y * dx')))))
 
 shared : (X dx X' dx' Y dy : ℕ) → X * dx' ≤ X' * dx → X * dy * (Y * dx') ≤ X' * dy * (Y * dx)

@@ -3,7 +3,7 @@ use mathlib.Core.Path.{_≡_, refl}
 use mathlib.Core.List.{List, [], _∷_, map}
 use Prim.Native.Nat.{ℕ}
 use lib.Ieee.{Float, nan, binary64, ofBits, round, neg, add, sub, sum, mul, div, le, lt, eq}
-use Rattle.common.specs.Outcome.{Outcome, value, numberIn}
+use Rattle.common.specs.Outcome.{value, numberIn}
 use Rattle.common.specs.Decimal.{scaled, decimal, whole, plus, minus}
 use Rattle.rules.specs.Units.{inUnits}
 use Rattle.rules.specs.Root.{rootRule, nearestRoot, wholeRoot}

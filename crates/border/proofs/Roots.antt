@@ -4,7 +4,7 @@ use mathlib.Core.Path.{_≡_, refl, sym, ap, _∙_, subst}
 use Prim.Native.Nat.{ℕ, zero, suc, _+_, _-_, _*_, _/_, _%_, _^_, _≤_, _<_}
 use native.Mathlib.Nat.{le-trans, le-of-eq, le-of-lt, lt-of-lt-of-le, lt-of-not-le, le-of-suc-le-suc, lt-irrefl, mul-one, mul-assoc, mul-pos, mul-le-mul, mul-le-mul-right, mul-right-comm, mul-lt-mul-of-pos-right, div-one, div-lt-iff-lt-mul, zero-div, zero-mul, mul-div-cancel}
 use native.Mathlib.Omega.{arith}
-use mathlib.Core.Bool.{Bool, true, false, _&&_}
+use mathlib.Core.Bool.{true, false, _&&_}
 use lib.IntN.{ℤ, pos, negsuc}
 use lib.Dec.{T, ltb, leb, eqb, ltb→lt, leb→le}
 use lib.Pow.{pow-add, pow-pos, pow-lt}
@@ -22,11 +22,8 @@ use Rattle.rules.proofs.Meaning.{shape, root-nearest, root-held}
 -- ---- an f64 that is not below 0 is `inUnits` of it over 2^1074
 
 shift : (m n d : ℕ) → d ≤ n → m * 1 * 2 ^ n ≡ m * 2 ^ (n - d) * 2 ^ d
-shift m n d h = ap (λ (x : ℕ). m * 1 * 2 ^ x) (sym (back n d h)) ∙ ap (λ (x : ℕ). m * 1 * x) (pow-add 2 (n - d) d) ∙ tidy (2 ^ (n - d)) (2 ^ d)
+shift m n d h = ap (λ (x : ℕ). m * 1 * 2 ^ x) (sym (omega arith)) ∙ ap (λ (x : ℕ). m * 1 * x) (pow-add 2 (n - d) d) ∙ tidy (2 ^ (n - d)) (2 ^ d)
   where
-    back : (n d : ℕ) → d ≤ n → n - d + d ≡ n
-    back n d h = omega arith
-
     tidy : (x y : ℕ) → m * 1 * (x * y) ≡ m * x * y
     tidy x y = omega arith
 

@@ -1,13 +1,13 @@
 -- The test against the border without its root: with d = T - n4, where d*d is below the number whose root is taken, T is not above the border; where the square of
 -- a smaller e is above that number, and n4 + e is below T, it is. Assumes nothing.
-use mathlib.Core.Path.{_≡_, sym, ap, _∙_, subst}
-use mathlib.Core.Bool.{Bool, true, false, cond}
+use mathlib.Core.Path.{_≡_, refl, sym, ap, _∙_, subst}
+use mathlib.Core.Bool.{Bool, true, false, not, cond}
 use lib.Dec.{T}
-use lib.Ieee.{Float, binary64, round, neg, sum, add, sub, mul, fits, le, lt, eq}
+use lib.Ieee.{Float, binary64, round, neg, sum, add, sub, mul, le, lt, eq}
 use lib.Ieee.Fits.{sub-fits, div-fits}
 use lib.Ieee.Positive.{positive, between, le-trans-positive}
 use Rattle.common.specs.Outcome.{Outcome, value, refused, orNan}
-use Rattle.common.specs.Decimal.{whole, decimal, scaled, plus}
+use Rattle.common.specs.Decimal.{decimal, scaled, plus}
 use Rattle.common.specs.Constant.{T-FROM, T-TO}
 use Rattle.common.specs.Range.{pTBox}
 use Rattle.rules.specs.Root.{rootRule}
@@ -99,5 +99,9 @@ module _ (p t : Float) (box : pTBox p t ≡ value tt) where
       sum-positive = between (borderAt p) (add binary64 N4 e) t (border-positive p (b .p-from) (b .p-to)) t-positive reached (at-most (add binary64 N4 e) t (holds k))
 
   -- by the root itself
-  pub by-root : (x : Bool) → lt (add binary64 N4 (orNan (rootRule (squareAt p)))) t ≡ x → cond x (refused 8) (value tt) ≡ besideBorder p t
-  by-root x h = told x (ap (λ (o : Outcome Float). lt (add binary64 N4 (orNan o)) t) (sym (root-is (squareAt p) (above-zero (squareAt p) q-positive))) ∙ h)
+  pub by-root : cond (not (lt (add binary64 N4 (orNan (rootRule (squareAt p)))) t)) (value tt) (refused 8) ≡ besideBorder p t
+  by-root = rw (root-is (squareAt p) (above-zero (squareAt p) q-positive)) (turned (lt (borderAt p) t) ∙ told (lt (borderAt p) t) refl)
+    where
+      turned : (x : Bool) → _≡_ {A = Outcome Unit} (cond (not x) (value tt) (refused 8)) (cond x (refused 8) (value tt))
+      turned true = refl
+      turned false = refl

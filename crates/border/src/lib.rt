@@ -15,12 +15,14 @@ use common::is_finite;
 use common::settle;
 use rules::raw_root;
 ghost use mathlib.Core.Path.{_≡_};
-ghost use mathlib.Core.Bool.{cond};
+ghost use mathlib.Core.Bool.{cond, not};
+ghost use lib.Ieee.{binary64, add, lt};
 ghost use Rattle.common.specs.Outcome.{value, refused, orNan};
 ghost use Rattle.common.specs.Formula.{Raw};
 ghost use Rattle.common.specs.Answer.{paper, paperVerdict};
 ghost use Rattle.common.specs.Range.{pTBox};
-ghost use Rattle.border.specs.Border.{B23-T2p, B23-T2pRule, B23-p2T, B23-p2TRule, besideBorder, region3Box};
+ghost use Rattle.rules.specs.Root.{rootRule};
+ghost use Rattle.border.specs.Border.{n4, B23-T2p, B23-T2pRule, B23-p2T, B23-p2TRule, besideBorder, region3Box};
 
 // R7-97, table 1
 const N1: f64 = 0.34805185628969e3;
@@ -85,6 +87,13 @@ pub fn raw_B23_p2T(p: MPa) -> f64
 // How far below T the border is taken to lie, in K, where T is held to be above it without the root.
 const MARGIN: f64 = 0.001;
 
+// Whether T is not above N4 + root(q).
+fn by_root(q: f64, t: f64) -> bool
+    ensures { λ r. ⌜ r ≡ not (lt (add binary64 (orNan n4) (orNan (rootRule q))) t) ⌝ }
+{
+    if N4 + raw_root(q) < t { false } else { true }
+}
+
 // Whether T is not above the border, for p and T of the box. The border is N4 + root(q), so where (T - N4)^2 is below q, or above it by the margin,
 // the root need not be worked: rounding keeps the order (proofs/Roots).
 fn beside(p: f64, t: f64) -> bool
@@ -104,7 +113,7 @@ fn beside(p: f64, t: f64) -> bool
             return false;
         }
     }
-    if N4 + raw_root(q) < t { false } else { true }
+    by_root(q, t)
 }
 
 // The checks of a call with (p,T) that answers in region 3 alone: the box, then 8 beyond the border with region 2.

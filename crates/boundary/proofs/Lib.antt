@@ -1,5 +1,4 @@
+pub mod Bands
 mod Middle
-pub mod TableSums
 pub mod Limit
 pub mod Unique
-pub mod Pins

@@ -1,17 +1,17 @@
 -- A p that is above one pressure and not above another, both between 1 and 128 MPa: none of its powers up to 4 either way is lost. Assumes nothing.
 use mathlib.Core.Path.{_≡_, refl, sym, subst}
 use mathlib.Core.Bool.{Bool, true, false, _||_}
-use Prim.Native.Nat.{ℕ, _*_, _^_, _≤_}
+use Prim.Native.Nat.{ℕ, _*_, _≤_}
 use native.Mathlib.Omega.{arith}
 use lib.Dec.{T, leb, leb→le}
-use lib.IntN.{ℤ, pos, natAbs}
+use lib.IntN.{pos, natAbs}
 use lib.Ieee.{Float, nan, inf, fin, up, down, lt, le, eq}
 use lib.Ieee.Positive.{num, den, positive, above, above-of-le, le→cross, cross→le, le-trans-positive}
 use borrow.Author.Tests.{ltb-false, leb-true, le-leb}
 use Rattle.sizes.proofs.Band.{Band}
 use Rattle.rules.specs.Power.{one}
 use Rattle.rules.proofs.Usual.{power-band}
-use Rattle.boundary.specs.Raw.{Bare}
+use Rattle.boundaries.specs.Raw.{Bare}
 
 abbrev top : Float
 top = fin false 1 (pos 7)

@@ -9,8 +9,8 @@ use Rattle.subregion.specs.declared.Letter.{Letter}
 use Rattle.subregion.specs.declared.Letter.the-variants.{G, L}
 use Rattle.r4.specs.Saturation.{p-saturation, T-saturation}
 use Rattle.choosers.specs.Choosers.{Band, ab, cdef, cghijk, clhijk, clmnopjk, cq-rk, csrk, cst, ct, bandOf, abBy, cdefBy, chijkBy, clmnopjkBy, csrkBy, cstBy, ctBy, around, uvwxBy, uyzxBy, saturatedBy}
-use Rattle.boundary.specs.Boundary.{boundaryOf}
-use Rattle.boundary.specs.declared.Boundary.the-variants.{Ab, Cd, Ef, Gh, Ij, Jk, Mn, Op, Qu, Rx, Uv, Wx}
+use Rattle.boundaries.specs.Boundary.{boundaryOf}
+use Rattle.boundaries.specs.declared.Boundary.the-variants.{Ab, Cd, Ef, Gh, Ij, Jk, Mn, Op, Qu, Rx, Uv, Wx}
 
 -- ---- the boundaries worked out, in the Rust's order: the first that is refused decides
 
@@ -94,10 +94,14 @@ unfoldable pub limit : Outcome Float
 unfolding p-saturation
 limit = p-saturation (decimal 643_15 2)
 
+-- the letter by a choice of the band, which looks at the limit and p
+abbrev pub letterBy : (Float → Float → Band) → Float → Float → Outcome Letter
+letterBy band p t = then limit (λ l. inBand (band l p) p t)
+
 -- the letter at p and t, inside another call
 unfoldable pub letterAt : Float → Float → Outcome Letter
 unfolding limit
-letterAt p t = then limit (λ l. inBand (bandOf l p) p t)
+letterAt p t = letterBy bandOf p t
 
 -- the call: the box and the border with region 2 first
 unfoldable pub letterRule : Float → Float → Outcome Letter

@@ -16,9 +16,9 @@ use Rattle.rules.specs.Log.{logarithmRule, L as ln2}
 use Rattle.rules.specs.Exp.{exponentialRule}
 use Rattle.border.specs.Border.{region3Box, besideBorder, B23-p2T}
 use Rattle.r4.specs.Saturation.{p-saturation, T-saturation}
-use Rattle.boundary.specs.Boundary.{boundaryRule, walkRule, rowAt, table, straight3ef}
+use Rattle.boundaries.specs.Boundary.{boundaryRule, walkRule, rowAt, table, straight3ef}
 use Rattle.boundary.specs.Choice.{letterRule, letterAt, limit, abRule, cdefRule, chijkRule, ctRule}
-use Rattle.boundary.specs.declared.Boundary.the-variants.{Ef}
+use Rattle.boundaries.specs.declared.Boundary.the-variants.{Ef}
 
 -- a call, with the numbers as printed
 pub data Call : Type 0 where

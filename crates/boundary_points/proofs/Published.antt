@@ -9,8 +9,8 @@ use Rattle.rules.specs.Units.{inUnits}
 use Rattle.rules.specs.Power.{powerRule}
 use Rattle.rules.specs.Log.{logarithmRule, L}
 use Rattle.common.proofs.Printed.{Value, prints, agrees}
-use Rattle.boundary.specs.Boundary.{boundaryRule, walkRule, rowAt, table, straight3ef}
-use Rattle.boundary.specs.declared.Boundary.the-variants.{Ab, Cd, Ef, Gh, Ij, Jk, Mn, Op, Qu, Rx, Uv, Wx}
+use Rattle.boundaries.specs.Boundary.{boundaryRule, walkRule, rowAt, table, straight3ef}
+use Rattle.boundaries.specs.declared.Boundary.the-variants.{Ab, Cd, Ef, Gh, Ij, Jk, Mn, Op, Qu, Rx, Uv, Wx}
 
 pub values : List Value
 values =

@@ -4,6 +4,7 @@ use mathlib.Core.Bool.{Bool, false, cond}
 use mathlib.Core.List.{List, [], _∷_}
 use lib.Dec.{eqb}
 use lib.IntN.{ℤ, pos, negsuc}
+use lib.ListN.{drop}
 use lib.Ieee.{Float}
 use Rattle.common.specs.Outcome.{Outcome, value, refused, check, then}
 use Rattle.common.specs.Range.{TdBox}
@@ -63,3 +64,11 @@ formulaIn (named k f ∷ rs) n = cond (isNumber k n) (value f) (formulaIn rs n)
 -- a property by number: 6 comes before 1, 2, 3
 abbrev pub propertyRule : ℤ → Float → Float → Outcome Float
 propertyRule n t d = then (formulaIn properties n) (λ f. called f t d)
+
+-- ---- Helps proofs only: the same in any list, and the numbers after the first nine
+
+abbrev pub ruleIn : List Named → ℤ → Float → Float → Outcome Float
+ruleIn ns n t d = then (formulaIn ns n) (λ f. called f t d)
+
+abbrev pub later : List Named
+later = drop 9 properties

@@ -1,4 +1,3 @@
-pub mod Distance
 pub mod Points
 pub mod Promise
 pub mod Unique

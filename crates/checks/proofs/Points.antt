@@ -1,8 +1,7 @@
 -- Points of the definition, worked out by antt: a property on either side of 1e-6 from the asked one, a refusal that passes, an asked number that is none.
 -- Assumes nothing.
 use mathlib.Core.Path.{_≡_, refl}
-use mathlib.Core.List.{List, [], _∷_, map}
-use Prim.Native.Nat.{ℕ}
+use mathlib.Core.List.{[], _∷_, map}
 use lib.Ieee.{Float, nan, round, neg, add, sub, sum, le, lt}
 use Rattle.common.specs.Decimal.{decimal, whole, scaled}
 use Rattle.common.specs.Outcome.{Outcome, value, refused, numberIn}

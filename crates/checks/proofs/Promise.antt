@@ -3,21 +3,13 @@
 use mathlib.Core.Path.{_≡_, refl}
 use mathlib.Core.Bool.{Bool, true, false, cond}
 use Prim.Native.Nat.{ℕ}
-use native.Mathlib.Omega.{arith}
 use lib.Ieee.{Float, nan, inf, fin, binary64, sub, le}
 use Rattle.common.specs.Outcome.{Outcome, value, refused, check, then}
 use Rattle.common.specs.Formula.{_⊖_, sizeOf}
 use Rattle.common.specs.Range.{TdBox}
+use Rattle.common.proofs.Calls.{no-value, went-on}
 use Rattle.properties.specs.Td.{Td2h, Td2s, statePressure}
 use Rattle.checks.specs.Checks.{NEAR, heldTo, checkPRule, checkHRule, checkSRule}
-
-pub no-value : {B : Type 0} (n : ℕ) (b : B) → _≡_ {A = Outcome B} (refused n) (value b) → ⊥
-no-value n b e = let z : _≡_ {A = ℕ} 0 1 = cc in omega arith
-
--- where a step goes on to a value, it gave one
-pub went-on : {A B : Type 0} (o : Outcome A) (f : A → Outcome B) (b : B) (C : Type 0) → then o f ≡ value b → ((a : A) → o ≡ value a → f a ≡ value b → C) → C
-went-on (value a) f b C e k = k a refl e
-went-on (refused n) f b C e k = absurd (no-value n b e)
 
 -- the property that was worked is within 1e-6 of the asked y
 pub record Within (worked : Outcome Float) (y : Float) : Type 0 where
@@ -27,11 +19,11 @@ pub record Within (worked : Outcome Float) (y : Float) : Type 0 where
 
 taken : {A : Type 0} (b : Bool) (x : A) (n : ℕ) (u : A) → cond b (value x) (refused n) ≡ value u → b ≡ true
 taken true x n u e = refl
-taken false x n u e = absurd (no-value n u e)
+taken false x n u e = absurd (no-value e)
 
 checked-is : (x z : Float) → check x ≡ value z → x ≡ z
-checked-is nan z e = absurd (no-value 5 z e)
-checked-is (inf s) z e = absurd (no-value 5 z e)
+checked-is nan z e = absurd (no-value e)
+checked-is (inf s) z e = absurd (no-value e)
 checked-is (fin s m k) z e = cc
 
 pub held : (y : Float) (worked : Outcome Float) (u : Unit) → heldTo y worked ≡ value u → Within worked y

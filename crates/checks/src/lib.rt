@@ -16,27 +16,41 @@ use properties::raw_h;
 use properties::raw_s;
 use properties::state_p;
 ghost use mathlib.Core.Path.{_≡_};
+ghost use Rattle.common.specs.Outcome.{value};
 ghost use Rattle.common.specs.Answer.{paper, paperVerdict};
-ghost use Rattle.checks.specs.Checks.{heldTo, checkPRule, checkHRule, checkSRule};
+ghost use Rattle.checks.specs.Checks.{judgedBy, heldTo, checkPRule, checkHRule, checkSRule};
 
 // How far the property may lie from the asked one.
 const NEAR: f64 = 0.000001;
+
+// What a difference that is near enough, or not, says of the state.
+fn judged(near: bool) -> Verdict
+    ensures { λ r. ⌜ paperVerdict r ≡ judgedBy near ⌝ }
+{
+    if near {
+        Verdict::Accepted
+    } else {
+        Verdict::Refused(Refusal::Unfound)
+    }
+}
+
+// The property's number, by its rounded difference from the asked y.
+fn compared(x: f64, y: f64) -> Verdict
+    ensures { λ r. ⌜ paperVerdict r ≡ heldTo y (value x) ⌝ }
+{
+    let e = x - y;
+    if is_finite(e) {
+        return judged(size(e) <= NEAR);
+    }
+    Verdict::Refused(Refusal::Step)
+}
 
 // The property that was worked, held to the asked y.
 fn held(worked: Answer, y: f64) -> Verdict
     ensures { λ r. ⌜ paperVerdict r ≡ heldTo y (paper worked) ⌝ }
 {
     match worked {
-        Answer::Value(x) => {
-            let e = x - y;
-            if is_finite(e) {
-                if size(e) <= NEAR {
-                    return Verdict::Accepted;
-                }
-                return Verdict::Refused(Refusal::Unfound);
-            }
-            Verdict::Refused(Refusal::Step)
-        }
+        Answer::Value(x) => compared(x, y),
         Answer::Refused(k) => Verdict::Refused(k),
     }
 }

@@ -13,18 +13,26 @@ use Rattle.subregion.specs.declared.Letter.the-variants.{A, B, C, D, E, F, G, H
 pub data Band : Type 0 where
   ab cdef cghijk clhijk clmnopjk cq-rk csrk cst ct : Band
 
--- limit is p_saturation(643.15). Document 01 has no p above 100; the Rust gives it the second band
-abbrev pub bandOf : Float → Float → Band
-bandOf limit p =
-    cond (lt (whole 40) p) (cond (le p (whole 100)) ab cdef)
-    (cond (lt (whole 25) p) cdef
-    (cond (lt (decimal 23_5 1) p) cghijk
-    (cond (lt (whole 23) p) clhijk
-    (cond (lt (decimal 22_5 1) p) clmnopjk
+-- up to 23 MPa; limit is p_saturation(643.15)
+abbrev pub bandTo23 : Float → Float → Band
+bandTo23 limit p =
+    cond (lt (decimal 22_5 1) p) clmnopjk
     (cond (lt limit p) cq-rk
     (cond (lt (decimal 20_5 1) p) csrk
     (cond (lt (decimal 19_00881189173929 14) p) cst
-    ct)))))))
+    ct)))
+
+-- up to 40 MPa
+abbrev pub bandTo40 : Float → Float → Band
+bandTo40 limit p =
+    cond (lt (whole 25) p) cdef
+    (cond (lt (decimal 23_5 1) p) cghijk
+    (cond (lt (whole 23) p) clhijk
+    (bandTo23 limit p)))
+
+-- Document 01 has no p above 100; the Rust gives it the second band
+abbrev pub bandOf : Float → Float → Band
+bandOf limit p = cond (lt (whole 40) p) (cond (le p (whole 100)) ab cdef) (bandTo40 limit p)
 
 -- ---- the letters by T, from the boundaries' numbers
 

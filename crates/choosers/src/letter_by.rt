@@ -5,7 +5,7 @@ use common::MPa;
 use subregion::Letter;
 ghost use mathlib.Core.Path.{_≡_};
 ghost use lib.Ieee.{le, lt};
-ghost use mathlib.Core.Bool.{cond};
+ghost use mathlib.Core.Bool.{_&&_, cond};
 ghost use Rattle.choosers.specs.Choosers.{abBy, cdefBy, chijkBy, clmnopjkBy, csrkBy, cstBy, ctBy, around, uvwxBy, uyzxBy, liquidBy, steamBy, saturatedBy};
 
 // Round the critical point: a letter, or the near-critical ones.
@@ -103,6 +103,13 @@ pub fn by_ct(tsat: Kelvin, t: Kelvin) -> Letter
     upto(tsat.0, Letter::C, Letter::T, t.0)
 }
 
+// Above one boundary and up to the other.
+fn between(from: f64, to: f64, t: f64) -> bool
+    ensures { λ r. ⌜ r ≡ (lt from t && le t to) ⌝ }
+{
+    t > from && t <= to
+}
+
 // Round the critical point, of bare numbers.
 fn round_by(tcd: f64, tqu: f64, trx: f64, tjk: f64, t: f64) -> Near
     ensures { λ r. ⌜ r ≡ around tcd tqu trx tjk t Near.Found Near.Inside ⌝ }
@@ -113,7 +120,7 @@ fn round_by(tcd: f64, tqu: f64, trx: f64, tjk: f64, t: f64) -> Near
     if t <= tqu {
         return Near::Found(Letter::Q);
     }
-    if t > trx && t <= tjk {
+    if between(trx, tjk, t) {
         return Near::Found(Letter::R);
     }
     if t > tjk {

@@ -1,4 +1,4 @@
--- A column that is written row by row, each row from its own pair, is the list that `rowsBy` gives. Assumes nothing.
+-- A column that is written row by row, each row from its own pair, is the list that `rowsBy` gives.
 use mathlib.Core.Path.{_≡_, refl, sym, ap, _∙_}
 use mathlib.Core.Bool.{Bool, true, false, _&&_}
 use mathlib.Core.List.{List, [], _∷_}

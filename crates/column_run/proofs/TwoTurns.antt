@@ -1,4 +1,4 @@
--- A row worked in two turns is the row. Assumes nothing.
+-- A row worked in two turns is the row.
 use mathlib.Core.Path.{_≡_, refl, ap, _∙_}
 use mathlib.Core.Bool.{false}
 use native.Mathlib.Omega.{arith}

@@ -9,7 +9,6 @@ use Rattle.common.specs.Outcome.{Outcome, numberIn}
 use Rattle.common.specs.Answer.{numberOf}
 use Rattle.common.specs.Decimal.{decimal, whole, scaled}
 use Rattle.common.specs.Range.{pTBox, TdBox, phBox, psBox, hsBox, pBox, TBox, saturatedPBox, saturatedTBox, saturatedBox}
-use Rattle.common.specs.declared.Refusal.{Refusal}
 use Rattle.common.specs.declared.Refusal.the-variants.{NotFinite, First, Second, State, Step, Property, Columns, Border, Unfound}
 
 pub refusals : map numberOf (NotFinite ∷ First ∷ Second ∷ State ∷ Step ∷ Property ∷ Columns ∷ Border ∷ Unfound ∷ []) ≡ 1 ∷ 2 ∷ 3 ∷ 4 ∷ 5 ∷ 6 ∷ 7 ∷ 8 ∷ 15 ∷ []

@@ -1,5 +1,5 @@
 -- A printed value: what a rule works out agrees with it to half a unit of its last place, decided by whole numbers.
-use mathlib.Core.Bool.{Bool, false, true, cond, _&&_, Bool·beq}
+use mathlib.Core.Bool.{Bool, false, true, _&&_, Bool·beq}
 use Prim.Native.Nat.{ℕ, _+_, _*_, _^_}
 use lib.Dec.{leb}
 use lib.Ieee.{Float, nan, inf, fin, up, down}

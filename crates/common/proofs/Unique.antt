@@ -2,108 +2,67 @@
 -- Assumes nothing.
 use mathlib.Core.Path.{sym, _∙_}
 use Rattle.common.proofs.Same.{One, same-answer, same-verdict}
-use Rattle.common.proofs.constants.Kinds as constants-kinds
-use Rattle.common.proofs.constants.Reads as constants
-use Rattle.common.proofs.property_numbers.Kinds as property-numbers-kinds
-use Rattle.common.proofs.property_numbers.Reads as property-numbers
-use Rattle.common.proofs.is_finite.Kinds as is-finite-kinds
-use Rattle.common.proofs.is_finite.Reads as is-finite
-use Rattle.common.proofs.settle.Kinds as settle-kinds
-use Rattle.common.proofs.settle.Reads as settle
-use Rattle.common.proofs.or_nan.Kinds as or-nan-kinds
-use Rattle.common.proofs.or_nan.Reads as or-nan
-use Rattle.common.proofs.number.Kinds as number-kinds
-use Rattle.common.proofs.number.Reads as number
-use Rattle.common.proofs.over.Kinds as over-kinds
-use Rattle.common.proofs.over.Reads as over
-use Rattle.common.proofs.size.Kinds as size-kinds
-use Rattle.common.proofs.size.Reads as size
-use Rattle.common.proofs.least.Kinds as least-kinds
-use Rattle.common.proofs.least.Reads as least
-use Rattle.common.proofs.verdict_byte.Kinds as verdict-byte-kinds
-use Rattle.common.proofs.verdict_byte.Reads as verdict-byte
-use Rattle.common.proofs.ranged.Kinds as ranged-kinds
-use Rattle.common.proofs.ranged.Reads as ranged
-use Rattle.common.proofs.check_only.Kinds as check-only-kinds
-use Rattle.common.proofs.check_only.Reads as check-only
-use Rattle.common.proofs.check_pair.Kinds as check-pair-kinds
-use Rattle.common.proofs.check_pair.Reads as check-pair
-use Rattle.common.proofs.in_p.Kinds as in-p-kinds
-use Rattle.common.proofs.in_p.Reads as in-p
-use Rattle.common.proofs.in_t.Kinds as in-t-kinds
-use Rattle.common.proofs.in_t.Reads as in-t
-use Rattle.common.proofs.in_d.Kinds as in-d-kinds
-use Rattle.common.proofs.in_d.Reads as in-d
-use Rattle.common.proofs.check_Td.Kinds as check-Td-kinds
-use Rattle.common.proofs.check_Td.Reads as check-Td
-use Rattle.common.proofs.check_pT.Kinds as check-pT-kinds
-use Rattle.common.proofs.check_pT.Reads as check-pT
-use Rattle.common.proofs.check_ph.Kinds as check-ph-kinds
-use Rattle.common.proofs.check_ph.Reads as check-ph
-use Rattle.common.proofs.check_ps.Kinds as check-ps-kinds
-use Rattle.common.proofs.check_ps.Reads as check-ps
-use Rattle.common.proofs.check_hs.Kinds as check-hs-kinds
-use Rattle.common.proofs.check_hs.Reads as check-hs
+use Rattle.common.proofs as common
 
-pub constants-one : One 0 constants-kinds.ps constants-kinds.r constants.Post
+pub constants-one : One 0 common.constants.Kinds.ps common.constants.Kinds.r common.constants.Reads.Post
 constants-one κs a e x y p q = p ∙ sym q
 
-pub property-numbers-one : One 0 property-numbers-kinds.ps property-numbers-kinds.r property-numbers.Post
+pub property-numbers-one : One 0 common.property_numbers.Kinds.ps common.property_numbers.Kinds.r common.property_numbers.Reads.Post
 property-numbers-one κs a e x y p q = p ∙ sym q
 
-pub is-finite-one : One 0 is-finite-kinds.ps is-finite-kinds.r is-finite.Post
+pub is-finite-one : One 0 common.is_finite.Kinds.ps common.is_finite.Kinds.r common.is_finite.Reads.Post
 is-finite-one κs a e x y p q = p ∙ sym q
 
-pub settle-one : One 0 settle-kinds.ps settle-kinds.r settle.Post
+pub settle-one : One 0 common.settle.Kinds.ps common.settle.Kinds.r common.settle.Reads.Post
 settle-one κs a e x y p q = same-answer _ x y p q
 
-pub or-nan-one : One 0 or-nan-kinds.ps or-nan-kinds.r or-nan.Post
+pub or-nan-one : One 0 common.or_nan.Kinds.ps common.or_nan.Kinds.r common.or_nan.Reads.Post
 or-nan-one κs a e x y p q = p ∙ sym q
 
-pub number-one : One 0 number-kinds.ps number-kinds.r number.Post
+pub number-one : One 0 common.number.Kinds.ps common.number.Kinds.r common.number.Reads.Post
 number-one κs a e x y p q = p ∙ sym q
 
-pub over-one : One 0 over-kinds.ps over-kinds.r over.Post
+pub over-one : One 0 common.over.Kinds.ps common.over.Kinds.r common.over.Reads.Post
 over-one κs a e x y p q = p ∙ sym q
 
-pub size-one : One 0 size-kinds.ps size-kinds.r size.Post
+pub size-one : One 0 common.size.Kinds.ps common.size.Kinds.r common.size.Reads.Post
 size-one κs a e x y p q = p ∙ sym q
 
-pub least-one : One 0 least-kinds.ps least-kinds.r least.Post
+pub least-one : One 0 common.least.Kinds.ps common.least.Kinds.r common.least.Reads.Post
 least-one κs a e x y p q = p ∙ sym q
 
-pub verdict-byte-one : One 0 verdict-byte-kinds.ps verdict-byte-kinds.r verdict-byte.Post
+pub verdict-byte-one : One 0 common.verdict_byte.Kinds.ps common.verdict_byte.Kinds.r common.verdict_byte.Reads.Post
 verdict-byte-one κs a e x y p q = p ∙ sym q
 
-pub ranged-one : One 0 ranged-kinds.ps ranged-kinds.r ranged.Post
+pub ranged-one : One 0 common.ranged.Kinds.ps common.ranged.Kinds.r common.ranged.Reads.Post
 ranged-one κs a e x y p q = p ∙ sym q
 
-pub check-only-one : One 0 check-only-kinds.ps check-only-kinds.r check-only.Post
+pub check-only-one : One 0 common.check_only.Kinds.ps common.check_only.Kinds.r common.check_only.Reads.Post
 check-only-one κs a e x y p q = same-verdict _ x y p q
 
-pub check-pair-one : One 0 check-pair-kinds.ps check-pair-kinds.r check-pair.Post
+pub check-pair-one : One 0 common.check_pair.Kinds.ps common.check_pair.Kinds.r common.check_pair.Reads.Post
 check-pair-one κs a e x y p q = same-verdict _ x y p q
 
-pub in-p-one : One 0 in-p-kinds.ps in-p-kinds.r in-p.Post
+pub in-p-one : One 0 common.in_p.Kinds.ps common.in_p.Kinds.r common.in_p.Reads.Post
 in-p-one κs a e x y p q = p ∙ sym q
 
-pub in-t-one : One 0 in-t-kinds.ps in-t-kinds.r in-t.Post
+pub in-t-one : One 0 common.in_t.Kinds.ps common.in_t.Kinds.r common.in_t.Reads.Post
 in-t-one κs a e x y p q = p ∙ sym q
 
-pub in-d-one : One 0 in-d-kinds.ps in-d-kinds.r in-d.Post
+pub in-d-one : One 0 common.in_d.Kinds.ps common.in_d.Kinds.r common.in_d.Reads.Post
 in-d-one κs a e x y p q = p ∙ sym q
 
-pub check-Td-one : One 0 check-Td-kinds.ps check-Td-kinds.r check-Td.Post
+pub check-Td-one : One 0 common.check_Td.Kinds.ps common.check_Td.Kinds.r common.check_Td.Reads.Post
 check-Td-one κs a e x y p q = same-verdict _ x y p q
 
-pub check-pT-one : One 0 check-pT-kinds.ps check-pT-kinds.r check-pT.Post
+pub check-pT-one : One 0 common.check_pT.Kinds.ps common.check_pT.Kinds.r common.check_pT.Reads.Post
 check-pT-one κs a e x y p q = same-verdict _ x y p q
 
-pub check-ph-one : One 0 check-ph-kinds.ps check-ph-kinds.r check-ph.Post
+pub check-ph-one : One 0 common.check_ph.Kinds.ps common.check_ph.Kinds.r common.check_ph.Reads.Post
 check-ph-one κs a e x y p q = same-verdict _ x y p q
 
-pub check-ps-one : One 0 check-ps-kinds.ps check-ps-kinds.r check-ps.Post
+pub check-ps-one : One 0 common.check_ps.Kinds.ps common.check_ps.Kinds.r common.check_ps.Reads.Post
 check-ps-one κs a e x y p q = same-verdict _ x y p q
 
-pub check-hs-one : One 0 check-hs-kinds.ps check-hs-kinds.r check-hs.Post
+pub check-hs-one : One 0 common.check_hs.Kinds.ps common.check_hs.Kinds.r common.check_hs.Reads.Post
 check-hs-one κs a e x y p q = same-verdict _ x y p q

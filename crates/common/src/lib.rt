@@ -2,7 +2,7 @@
 // What each answer means is in specs/Answer.antt, the ranges in specs/Range.antt, the constants in specs/Constant.antt, the property numbers in
 // specs/Property.antt.
 ghost use mathlib.Core.Path.{_≡_};
-ghost use Prim.Native.Nat.{_-_};
+ghost use Prim.Native.Nat.{min};
 ghost use Rattle.common.specs.Outcome.{finite, check, orNan, numberIn};
 ghost use Rattle.common.specs.Formula.{sizeOf, rawOver};
 ghost use Rattle.common.specs.Answer.{numberOf, paper, paperVerdict};
@@ -234,7 +234,7 @@ pub fn size(x: f64) -> f64
 
 // The smaller of two counts.
 pub fn least(a: usize, b: usize) -> usize
-    ensures { λ r. ⌜ r ≡ a - (a - b) ⌝ }
+    ensures { λ r. ⌜ r ≡ min a b ⌝ }
 {
     if b < a { b } else { a }
 }

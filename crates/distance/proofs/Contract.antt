@@ -17,10 +17,10 @@ use Rattle.subregion.specs.declared.Letter.{Letter}
 use Rattle.subregion.specs.declared.LetterAnswer.{LetterAnswer}
 use Rattle.subregion.specs.declared.LetterAnswer.the-variants.{Value, Refused}
 use Rattle.subregion.specs.Letter.{paperLetter}
-use Rattle.boundary.specs.Boundary.{boundaryRule}
-use Rattle.boundary.specs.declared.Boundary.{Boundary}
-use Rattle.boundary.proofs.T_atRegionBoundary.Kinds as line-kinds
-use Rattle.boundary.proofs.T_atRegionBoundary.Reads as line
+use Rattle.boundaries.specs.Boundary.{boundaryRule}
+use Rattle.boundaries.specs.declared.Boundary.{Boundary}
+use Rattle.boundaries.proofs.T_atRegionBoundary.Kinds as line-kinds
+use Rattle.boundaries.proofs.T_atRegionBoundary.Reads as line
 use Rattle.boundary.proofs.sub_region3_pT.Kinds as choice-kinds
 use Rattle.boundary.proofs.sub_region3_pT.Reads as choice
 use Rattle.distance.specs.Exact.{Polynomial}

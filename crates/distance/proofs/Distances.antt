@@ -14,7 +14,7 @@ use Rattle.common.specs.Sum.{every}
 use Rattle.rounding.specs.Fraction.{Near, scaledBy}
 use Rattle.rounding.proofs.Bound.{float, tight, expression-near}
 use Rattle.rounding.proofs.Whole.{held-value}
-use Rattle.boundary.specs.Boundary.{boundaryOf, boundaryRule}
+use Rattle.boundaries.specs.Boundary.{boundaryOf, boundaryRule}
 use Rattle.distance.specs.Exact.{form, Polynomial, cd, ef, gh, ij, jk, mn, qu, rx, uv, Q, temperature}
 use Rattle.distance.specs.Distance.{kind, top, distance, unit, Reaches}
 use Rattle.distance.proofs.Kept.{bare-of}

@@ -20,10 +20,10 @@ use Rattle.rounding.specs.Fraction.{Fraction, ratio, signed, sumOver}
 use Rattle.rounding.proofs.Errors.{times}
 use Rattle.rounding.proofs.Bound.{Ex, con, var, sum, product, float, exact, Same}
 use Rattle.rounding.proofs.Powers.{power-ex, power-float, power-exact, sum-ex, sum-float, sum-same}
-use Rattle.boundary.specs.Boundary as f64
-use Rattle.boundary.specs.Boundary.{inP, boundaryOf, walkRule, rowAt, table, straight3ef}
-use Rattle.boundary.specs.Raw.{bareTerm, Bare}
-use Rattle.boundary.proofs.TableSums.{small, sum-check}
+use Rattle.boundaries.specs.Boundary as f64
+use Rattle.boundaries.specs.Boundary.{inP, boundaryOf, walkRule, rowAt, table, straight3ef}
+use Rattle.boundaries.specs.Raw.{bareTerm, Bare}
+use Rattle.boundaries.proofs.TableSums.{small, sum-check}
 use Rattle.distance.specs.Exact.{Row, Form, tabled, straight, form, valueOf, Polynomial, cd, ef, gh, ij, jk, mn, qu, rx, uv, Q, lifted, gain, loss, polynomial, line}
 use Rattle.distance.specs.Distance.{kind}
 

@@ -17,7 +17,7 @@ use Rattle.common.specs.Outcome.{check}
 use Rattle.rules.specs.Power.{powerRule}
 use Rattle.rules.specs.RawPower.{rawPower}
 use Rattle.rules.proofs.Usual.{power-band, power-zero}
-use Rattle.boundary.specs.Raw.{Bare}
+use Rattle.boundaries.specs.Raw.{Bare}
 use Rattle.distance.specs.Exact.{Q}
 
 -- over any Q above 0

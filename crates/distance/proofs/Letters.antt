@@ -28,7 +28,7 @@ use Rattle.rounding.proofs.Compare.{lt-then-le, le-agrees, lt-values}
 use Rattle.rounding.proofs.Whole.{whole-from, finite-value}
 use Rattle.subregion.specs.declared.Letter.{Letter}
 use Rattle.subregion.specs.declared.Letter.the-variants.{G, L}
-use Rattle.boundary.specs.Boundary.{boundaryOf}
+use Rattle.boundaries.specs.Boundary.{boundaryOf}
 use Rattle.choosers.specs.Choosers.{Band, cghijk, clhijk, bandOf}
 use Rattle.boundary.specs.Choice.{chijkRule, inBand, letterAt, letterRule}
 use Rattle.boundary.proofs.Limit.{limit-is}

@@ -9,23 +9,13 @@ use denote.Triple.Clauses.{AtExit}
 use borrow.Fn.Kinds.{Dens, endedOf, resT}
 use Rattle.common.proofs.Same.{One}
 use Rattle.entries.specs.Rows.{repliesTo}
-use Rattle.entries.proofs.numbers.entry_of.Kinds as entry-of-kinds
-use Rattle.entries.proofs.numbers.entry_of.Reads as entry-of
 use Rattle.entries.proofs.call.answer.Kinds as answer-kinds
 use Rattle.entries.proofs.call.answer.Reads as answer
-use Rattle.entries.proofs.page.agrees.Kinds as agrees-kinds
-use Rattle.entries.proofs.page.agrees.Reads as agrees
 use Rattle.entries.proofs.page.answer_rows.Kinds as answer-rows-kinds
 use Rattle.entries.proofs.page.answer_rows.Reads as answer-rows
 
-pub entry-of-one : One 0 entry-of-kinds.ps entry-of-kinds.r entry-of.Post
-entry-of-one κs a e x y p q = p ∙ sym q
-
 pub answer-one : One 0 answer-kinds.ps answer-kinds.r answer.Post
 answer-one κs a e x y p q = p ∙ sym q
-
-pub agrees-one : One 1 agrees-kinds.ps agrees-kinds.r agrees.Post
-agrees-one κs a e x y p q = p ∙ sym q
 
 pub answer-rows-one : (κs : Lfts 2) (a : Dens κs answer-rows-kinds.ps) (d e : AtExit (endedOf 2 answer-rows-kinds.ps answer-rows-kinds.r) κs) (x y : resT answer-rows-kinds.r κs .Denot) →
     answer-rows.Post κs a x d → answer-rows.Post κs a y e → (x ≡ y) × (now (d .1 .0) ≡ now (e .1 .0))

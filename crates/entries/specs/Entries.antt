@@ -10,9 +10,9 @@ use Rattle.rules.specs.Log.{logarithmRule}
 use Rattle.rules.specs.Exp.{exponentialRule}
 use Rattle.r4.specs.Saturation as r4
 use Rattle.border.specs.Border as border
-use Rattle.boundary.specs.declared.Boundary.{Boundary}
-use Rattle.boundary.specs.declared.Boundary.the-variants.{Ab, Cd, Ef, Gh, Ij, Jk, Mn, Op, Qu, Rx, Uv, Wx}
-use Rattle.boundary.specs.Boundary.{boundaryRule}
+use Rattle.boundaries.specs.declared.Boundary.{Boundary}
+use Rattle.boundaries.specs.declared.Boundary.the-variants.{Ab, Cd, Ef, Gh, Ij, Jk, Mn, Op, Qu, Rx, Uv, Wx}
+use Rattle.boundaries.specs.Boundary.{boundaryRule}
 use Rattle.boundary.specs.Choice.{letterRule}
 use Rattle.subregion.specs.Letter.{ofByte}
 use Rattle.volume.specs.declared.Phase.the-variants.{Liquid, Steam}
@@ -27,8 +27,16 @@ use Rattle.column_run.specs.Columns.{rowRule}
 use Rattle.search.specs.Calls as search
 use Rattle.reply.specs.declared.Reply.{Reply}
 use Rattle.reply.specs.Shape.{numberReply, letterReply, recordReply}
-use Rattle.entries.specs.declared.Entry.{Entry}
-use Rattle.entries.specs.declared.Entry.the-variants as entry
+use Rattle.entry_numbers.specs.declared.Entry.{Entry}
+use Rattle.entry_numbers.specs.declared.Entry.the-variants as entry
+use Rattle.entry_numbers.specs.declared.Ones.{Ones}
+use Rattle.entry_numbers.specs.declared.Ones.the-variants as one
+use Rattle.entry_numbers.specs.declared.Tens.{Tens}
+use Rattle.entry_numbers.specs.declared.Tens.the-variants as ten
+use Rattle.entry_numbers.specs.declared.Twenties.{Twenties}
+use Rattle.entry_numbers.specs.declared.Twenties.the-variants as twenty
+use Rattle.entry_numbers.specs.declared.Thirties.{Thirties}
+use Rattle.entry_numbers.specs.declared.Thirties.the-variants as thirty
 use Rattle.entries.specs.Named.{rowReply, cpWReply, foundReply, searchedReply, unknown, placeOf, named}
 
 -- a boundary by its number
@@ -49,37 +57,53 @@ unfoldable pub phaseVolumeReply : ℤ → Float → Float → Reply
 phaseVolumeReply n p t = named (Liquid ∷ Steam ∷ []) Liquid (placeOf n) (λ x. numberReply (volume.pT2v-sat-reg3Rule p t x))
 
 -- entry, whole number, first and second argument
+unfoldable pub onesRule : Ones → ℤ → Float → Float → Reply
+onesRule one.Unnamed n a b = unknown
+onesRule one.Power n a b = numberReply (powerRule a n)
+onesRule one.Root n a b = numberReply (rootRule a)
+onesRule one.Logarithm n a b = numberReply (logarithmRule a)
+onesRule one.Exponential n a b = numberReply (exponentialRule a)
+onesRule one.PSaturation n a b = numberReply (r4.p-saturationRule a)
+onesRule one.TSaturation n a b = numberReply (r4.T-saturationRule a)
+onesRule one.Boundary n a b = boundaryReply n a
+onesRule one.Letter n a b = letterReply (letterRule a b)
+onesRule one.LetterVolume n a b = letterVolumeReply n a b
+
+unfoldable pub tensRule : Tens → ℤ → Float → Float → Reply
+tensRule ten.Volume n a b = numberReply (volume.pT2v-reg3Rule a b)
+tensRule ten.PhaseVolume n a b = phaseVolumeReply n a b
+tensRule ten.PhT n a b = numberReply (backward.ph2T-reg3Rule a b)
+tensRule ten.PhV n a b = numberReply (backward.ph2v-reg3Rule a b)
+tensRule ten.PsT n a b = numberReply (backward.ps2T-reg3Rule a b)
+tensRule ten.PsV n a b = numberReply (backward.ps2v-reg3Rule a b)
+tensRule ten.HsP n a b = numberReply (backward.hs2p-reg3Rule a b)
+tensRule ten.Unnamed n a b = unknown
+tensRule ten.BorderT n a b = numberReply (border.B23-p2TRule a)
+tensRule ten.BorderP n a b = numberReply (border.B23-T2pRule a)
+
+unfoldable pub twentiesRule : Twenties → ℤ → Float → Float → Reply
+twentiesRule twenty.TdRecord n a b = recordReply (report (recordRule a b))
+twentiesRule twenty.PtRecord n a b = recordReply (report (region3.pTRule a b))
+twentiesRule twenty.PhRecord n a b = recordReply (report (region3.phRule a b))
+twentiesRule twenty.PsRecord n a b = recordReply (report (region3.psRule a b))
+twentiesRule twenty.HsRecord n a b = recordReply (report (region3.hsRule a b))
+twentiesRule twenty.Property n a b = numberReply (propertyRule n a b)
+twentiesRule twenty.PvRecord n a b = searchedReply (search.reportSearched (search.pvRule a b))
+twentiesRule twenty.ThRecord n a b = searchedReply (search.reportSearched (search.ThRule a b))
+twentiesRule twenty.TsRecord n a b = searchedReply (search.reportSearched (search.TsRule a b))
+twentiesRule twenty.Unnamed n a b = unknown
+
+unfoldable pub thirtiesRule : Thirties → ℤ → Float → Float → Reply
+thirtiesRule thirty.ColumnRow n a b = rowReply (rowRule a b)
+thirtiesRule thirty.Unnamed n a b = unknown
+thirtiesRule thirty.CpW n a b = cpWReply (cpAndWRule a b)
+thirtiesRule thirty.PvT n a b = foundReply (search.pv2T-reg3Rule a b)
+thirtiesRule thirty.ThD n a b = foundReply (search.Th2d-reg3Rule a b)
+thirtiesRule thirty.TsD n a b = foundReply (search.Ts2d-reg3Rule a b)
+
 unfoldable pub replyRule : Entry → ℤ → Float → Float → Reply
 replyRule entry.Unnamed n a b = unknown
-replyRule entry.Power n a b = numberReply (powerRule a n)
-replyRule entry.Root n a b = numberReply (rootRule a)
-replyRule entry.Logarithm n a b = numberReply (logarithmRule a)
-replyRule entry.Exponential n a b = numberReply (exponentialRule a)
-replyRule entry.PSaturation n a b = numberReply (r4.p-saturationRule a)
-replyRule entry.TSaturation n a b = numberReply (r4.T-saturationRule a)
-replyRule entry.Boundary n a b = boundaryReply n a
-replyRule entry.Letter n a b = letterReply (letterRule a b)
-replyRule entry.LetterVolume n a b = letterVolumeReply n a b
-replyRule entry.Volume n a b = numberReply (volume.pT2v-reg3Rule a b)
-replyRule entry.PhaseVolume n a b = phaseVolumeReply n a b
-replyRule entry.PhT n a b = numberReply (backward.ph2T-reg3Rule a b)
-replyRule entry.PhV n a b = numberReply (backward.ph2v-reg3Rule a b)
-replyRule entry.PsT n a b = numberReply (backward.ps2T-reg3Rule a b)
-replyRule entry.PsV n a b = numberReply (backward.ps2v-reg3Rule a b)
-replyRule entry.HsP n a b = numberReply (backward.hs2p-reg3Rule a b)
-replyRule entry.TdRecord n a b = recordReply (report (recordRule a b))
-replyRule entry.PtRecord n a b = recordReply (report (region3.pTRule a b))
-replyRule entry.PhRecord n a b = recordReply (report (region3.phRule a b))
-replyRule entry.PsRecord n a b = recordReply (report (region3.psRule a b))
-replyRule entry.HsRecord n a b = recordReply (report (region3.hsRule a b))
-replyRule entry.Property n a b = numberReply (propertyRule n a b)
-replyRule entry.ColumnRow n a b = rowReply (rowRule a b)
-replyRule entry.BorderT n a b = numberReply (border.B23-p2TRule a)
-replyRule entry.BorderP n a b = numberReply (border.B23-T2pRule a)
-replyRule entry.CpW n a b = cpWReply (cpAndWRule a b)
-replyRule entry.PvRecord n a b = searchedReply (search.reportSearched (search.pvRule a b))
-replyRule entry.ThRecord n a b = searchedReply (search.reportSearched (search.ThRule a b))
-replyRule entry.TsRecord n a b = searchedReply (search.reportSearched (search.TsRule a b))
-replyRule entry.PvT n a b = foundReply (search.pv2T-reg3Rule a b)
-replyRule entry.ThD n a b = foundReply (search.Th2d-reg3Rule a b)
-replyRule entry.TsD n a b = foundReply (search.Ts2d-reg3Rule a b)
+replyRule (entry.Ones e) n a b = onesRule e n a b
+replyRule (entry.Tens e) n a b = tensRule e n a b
+replyRule (entry.Twenties e) n a b = twentiesRule e n a b
+replyRule (entry.Thirties e) n a b = thirtiesRule e n a b

@@ -1,4 +1,3 @@
 pub mod Named
-pub mod Numbers
 pub mod Entries
 pub mod Rows

@@ -10,7 +10,7 @@ use Rattle.properties.specs.Together.{CpAndW}
 use Rattle.record.specs.Record.{fieldsOf}
 use Rattle.column_run.specs.declared.Line.{Line}
 use Rattle.secant.specs.Secant.{Proposal}
-use Rattle.search.specs.Calls.{Told}
+use Rattle.search.specs.Calls.{SearchedReport as Told}
 use Rattle.reply.specs.declared.Reply.{Reply}
 use Rattle.reply.specs.Shape.{refusedBy}
 

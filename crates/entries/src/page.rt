@@ -1,16 +1,16 @@
-// From rows of 24 bytes to replies of 88, and stored records of both.
+// From rows of 24 bytes to replies of 88.
 use crate::answer;
-use crate::entry_of;
 use buffer::byte_at;
 use buffer::float_at;
 use buffer::int_at;
 use common::least;
+use entry_numbers::entry_of;
 use reply::Reply;
 use reply::put_reply;
 ghost use mathlib.Core.Path.{_≡_};
 ghost use Prim.Native.Nat.{_+_, _<_, _^_};
 ghost use lib.Seq.{sets};
-ghost use Rattle.entries.specs.Rows.{replyAt, rowsIn, repliesTo, recordAgrees};
+ghost use Rattle.entries.specs.Rows.{replyAt, rowsIn, repliesTo};
 
 fn reply_at(s: &[u8], at: usize) -> Reply
     requires { ⌜ at + 24 < 2 ^ 64 ⌝ }
@@ -36,11 +36,4 @@ pub fn answer_rows(rows: &[u8], replies: &mut [u8]) -> usize
         i += 1;
     }
     n
-}
-
-// Whether a stored record of 112 bytes, a row of 24 and the 88 that answer it, has the reply to its row.
-pub fn agrees(stored: &[u8]) -> bool
-    ensures { λ r. ⌜ r ≡ recordAgrees (now (stored .entry)) ⌝ }
-{
-    reply::agrees(stored, reply_at(stored, 0))
 }

@@ -12,7 +12,7 @@ use search::FoundAnswer;
 use search::SearchedRecord;
 ghost use mathlib.Core.Path.{_≡_};
 ghost use Rattle.by_number.specs.Together.{paperCpW};
-ghost use Rattle.place.specs.Found.{paperFound};
+ghost use Rattle.place.specs.AcceptedPlace.{paperFound};
 ghost use Rattle.search.specs.Calls.{paperSearched};
 ghost use Rattle.entries.specs.Named.{rowReply, cpWReply, foundReply, searchedReply, placeOf};
 

@@ -14,6 +14,8 @@ use Rattle.exchange_entry.specs.declared.ExchangeRefusal.the-variants.{R
 use Rattle.exchange_entry.specs.declared.ExchangeVerdict.{ExchangeVerdict}
 use Rattle.exchange_entry.specs.declared.ExchangeVerdict.the-variants as verdict
 use Rattle.exchange_entry.specs.declared.ExchangeAnswer.{ExchangeAnswer}
+use Rattle.exchange_entry.proofs.call.point_at.Kinds as point-at-kinds
+use Rattle.exchange_entry.proofs.call.point_at.Reads as point-at
 use Rattle.exchange_entry.proofs.call.point_of.Kinds as point-of-kinds
 use Rattle.exchange_entry.proofs.call.point_of.Reads as point-of
 use Rattle.exchange_entry.proofs.call.ask.Kinds as ask-kinds
@@ -45,6 +47,9 @@ answer-back a = ap (λ (v : ExchangeVerdict). record { verdict = v; «record» =
 
 pub same-exchange : (o : Outcome Pair × (Outcome Unit × Record)) (r s : ExchangeAnswer) → paperExchange r ≡ o → paperExchange s ≡ o → r ≡ s
 same-exchange = same paperExchange answerOf answer-back
+
+pub point-at-one : One 0 point-at-kinds.ps point-at-kinds.r point-at.Post
+point-at-one κs a e x y p q = p ∙ sym q
 
 pub point-of-one : One 0 point-of-kinds.ps point-of-kinds.r point-of.Post
 point-of-one κs a e x y p q = p ∙ sym q

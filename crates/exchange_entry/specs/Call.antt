@@ -4,10 +4,10 @@ use mathlib.Core.Path.{_≡_}
 use mathlib.Core.List.{List}
 use Prim.Native.Nat.{ℕ}
 use lib.Ieee.{Float, binary64, ofBits}
-use Rattle.common.specs.Outcome.{Outcome, value, refused, valueOr, numberIn}
+use Rattle.common.specs.Outcome.{Outcome, value, refused, numberIn}
 use Rattle.common.specs.Answer.{numberOf}
 use Rattle.record.specs.declared.Record.{Record}
-use Rattle.record.specs.Record.{zeroRecord, report}
+use Rattle.record.specs.Record.{report}
 use Rattle.td_record.specs.Steps.{recordRule}
 use Rattle.region3.specs.Entries.{pTRule, phRule, psRule, hsRule}
 use Rattle.exchange_record.specs.declared.Pair.{Pair}

@@ -26,13 +26,13 @@ use region3::ph_reg3;
 use region3::ps_reg3;
 use td_record::Td_reg3;
 ghost use mathlib.Core.Path.{_≡_};
-ghost use Rattle.common.specs.Outcome.{value, refused, numberIn};
+ghost use Rattle.common.specs.Outcome.{value};
 ghost use Rattle.common.specs.Answer.{paperVerdict};
 ghost use Rattle.record.specs.Record.{report, paperRecord};
-ghost use Rattle.exchange_record.specs.Reading.{readNumber};
 ghost use Rattle.exchange_entry.specs.Call.{pointAt, pointOf, entryRule, exchangeOf, paperExchange, heard, verdictNumber, verdictPair, Exchanged};
 
-fn point_at(pair: Pair, a: f64, b: f64) -> Point
+// The point of two numbers, each under the unit that its pair says.
+pub fn point_at(pair: Pair, a: f64, b: f64) -> Point
     ensures { λ r. ⌜ r ≡ pointAt pair a b ⌝ }
 {
     match pair {
@@ -75,22 +75,18 @@ fn judged(pair: Pair, v: Verdict) -> ExchangeVerdict
     }
 }
 
-fn entered(pair: Pair, a: RecordAnswer) -> ExchangeAnswer
-    ensures { λ r. ⌜ paperExchange r ≡ (value pair, paperRecord a) ⌝ }
-{
-    let v = a.verdict;
-    let record = a.record;
-    ExchangeAnswer {
-        verdict: judged(pair, v),
-        record,
-    }
-}
-
+// The pair's own answer, with the pair.
 fn asked(given: Record, q: Asked) -> ExchangeAnswer
     ensures { λ r. ⌜ paperExchange r ≡ exchangeOf (value q) ⌝ }
 {
     let pair = q.pair;
-    entered(pair, ask(given, point_of(q)))
+    let answer = ask(given, point_of(q));
+    let v = answer.verdict;
+    let record = answer.record;
+    ExchangeAnswer {
+        verdict: judged(pair, v),
+        record,
+    }
 }
 
 // The record's own refusal, or its pair's answer.

@@ -13,6 +13,7 @@ mod call;
 
 pub use call::answer;
 pub use call::ask;
+pub use call::point_at;
 pub use call::point_of;
 pub use call::verdict_number;
 pub use call::verdict_pair;

@@ -3,25 +3,23 @@
 -- what it decides. Assumes nothing.
 use mathlib.Core.Path.{_≡_, refl, sym, ap, _∙_}
 use mathlib.Core.Bool.{Bool, true, false, cond}
-use mathlib.Core.Logic.{_⊎_, inl, inr}
 use mathlib.Core.List.{List, [], _∷_, _++_}
 use Prim.Native.Nat.{ℕ, zero, suc, _+_, _*_, _≤_, _<_}
 use native.Mathlib.Decide.{decLe}
 use native.Mathlib.Omega.{arith}
-use lib.Dec.{leb}
+use lib.Dec.{leb, lit<}
 use lib.ListN.{length, drop, length-append, take-append-drop}
 use lib.ListN.{take as front}
 use lib.Seq.{length-take-le, take-at, drop-at}
-use borrow.Author.Tests.{le-leb, lt-leb, leb-true, leb-false}
-use Rattle.common.specs.Outcome.{Outcome, value, refused, then}
+use borrow.Author.Tests.{le-leb, lt-leb}
+use Rattle.common.specs.Outcome.{Outcome, value, refused}
 use Rattle.exchange_record.specs.declared.Asked.{Asked}
-use Rattle.exchange_record.specs.declared.Pair.{Pair}
-use Rattle.exchange_record.specs.Grammar.{Field, said, Whole, AllWhole, spelt, encoded, word, known, Tagged, tagged, pairs, pairIn, pairOf, Forms, Accepted, Cut, tag-alone, half-a-length, short, Course, skipped, taken, stopped, fateOf, lastTag, pairAmong, RefusedAfter, cut, stop, skip, take, unpaired, Refused}
+use Rattle.exchange_record.specs.Grammar.{Field, said, Whole, AllWhole, spelt, encoded, word, known, Forms, Accepted, Cut, tag-alone, half-a-length, short, Course, skipped, taken, stopped, fateOf, lastTag, pairAmong, RefusedAfter, cut, stop, skip, take, unpaired, Refused}
 use Rattle.exchange_record.specs.Reading.{Means}
 use Rattle.exchange_record.specs.Walk.{seenOf, askedBy, finished}
 use Rattle.exchange_record.proofs.Pairs.{rising, no-asked}
-use Rattle.exchange_record.proofs.Fields.{taken-size, taken-known, is-skipped, is-taken}
-use Rattle.exchange_record.proofs.Walk.{onto, AcceptedAfter, MeansAfter, from-none, to-none, skipping, taking, AllEight, at-end}
+use Rattle.exchange_record.proofs.Fields.{taken-size, is-skipped, is-taken}
+use Rattle.exchange_record.proofs.Walk.{onto, MeansAfter, from-none, skipping, taking, AllEight, at-end}
 
 -- ---- the field at the front of some bytes
 
@@ -116,6 +114,9 @@ onto-length (f ∷ fs) ks = let r = onto-length fs (f ∷ ks) in omega arith
 too-many : (before ks : List Field) (x y : Field) → onto before ks ≡ x ∷ y ∷ [] → 2 < length before + length ks → ⊥
 too-many before ks x y e h = let r = onto-length before ks in let z = ap length e in omega arith
 
+too-few : (n : ℕ) → n < 2 → n ≡ 2 → ⊥
+too-few n h e = omega arith
+
 -- a known field of an accepted record is taken
 forms-taken : (before : List Field) (f : Field) (ks : List Field) (q : Asked) → Whole f → Forms (onto before (f ∷ ks)) q
     → fateOf (lastTag before) (f .tag) (said f) ≡ taken
@@ -137,14 +138,8 @@ forms-taken (g ∷ h ∷ fs) f ks q w m = absurd (too-many (g ∷ h ∷ fs) (f �
 
 forms-end : (before : List Field) (q : Asked) → Forms (onto before []) q → finished (seenOf before) ≡ value q
 unfolding askedBy
-forms-end [] q m = let z = ap length (m .two) in absurd (few z)
-  where
-    few : _≡_ {A = ℕ} 0 2 → ⊥
-    few z = omega arith
-forms-end (x ∷ []) q m = let z = ap length (m .two) in absurd (few z)
-  where
-    few : _≡_ {A = ℕ} 1 2 → ⊥
-    few z = omega arith
+forms-end [] q m = absurd (too-few 0 (lit< tt) (ap length (m .two)))
+forms-end (x ∷ []) q m = absurd (too-few 1 (lit< tt) (ap length (m .two)))
 forms-end (y ∷ x ∷ []) q m =
     let d : x ≡ m .first = cc in
     let e : y ≡ m .second = cc in

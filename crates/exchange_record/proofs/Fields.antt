@@ -1,16 +1,16 @@
 -- A field of a list of bytes by the index that it starts at, and what its course shows of it. Assumes nothing.
-use mathlib.Core.Path.{_≡_, refl, sym, ap, subst, _∙_}
+use mathlib.Core.Path.{_≡_, refl, sym, ap, _∙_}
 use mathlib.Core.Bool.{Bool, true, false, cond, _&&_}
-use mathlib.Core.Logic.{_⊎_, inl, inr}
+use mathlib.Core.Logic.{inl, inr}
 use mathlib.Core.List.{List, [], _∷_, _++_}
-use Prim.Native.Nat.{ℕ, zero, suc, _+_, _*_, _-_, _≤_, _<_}
+use Prim.Native.Nat.{ℕ, suc, _+_, _-_, _≤_, _<_}
 use native.Mathlib.Decide.{decLe}
 use native.Mathlib.Omega.{arith}
 use lib.Dec.{leb, ltb, eqb}
 use lib.ListN.{length, getD, take, drop, length-drop, take-append-drop, drop-of-length-le}
 use lib.Seq.{drop-cons, length-take-le, drop-drop}
 use borrow.Author.Tests.{eqb-true, eq-eqb, lt-leb, le-leb, lt-ltb}
-use Rattle.exchange_record.specs.Grammar.{Field, said, Whole, spelt, word, Cut, tag-alone, half-a-length, short, Course, skipped, taken, stopped, fateOf}
+use Rattle.exchange_record.specs.Grammar.{Field, spelt, word, Cut, tag-alone, half-a-length, short, Course, skipped, taken, stopped, fateOf}
 use Rattle.exchange_record.specs.Walk.{sizeAt, lastOf, added, FieldAt, Passed, Stops}
 use Rattle.exchange_record.specs.declared.Cursor.{Cursor}
 use Rattle.exchange_record.specs.declared.Seen.{Seen}

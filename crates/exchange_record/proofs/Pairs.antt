@@ -1,11 +1,11 @@
--- Two tags and their pair. Assumes nothing.
-use mathlib.Core.Path.{_≡_, refl, sym, ap, _∙_}
+-- Two tags and their pair: the answer for them, that they are a pair or 14, and that the tags of a pair rise from 1 to 5. Assumes nothing.
+use mathlib.Core.Path.{_≡_, refl}
 use mathlib.Core.Bool.{Bool, true, false, _&&_, cond}
 use mathlib.Core.Logic.{_⊎_, inl, inr}
 use mathlib.Core.List.{List, [], _∷_}
 use Prim.Native.Nat.{ℕ, _+_, _*_, _<_, _≤_}
 use native.Mathlib.Omega.{arith}
-use lib.Dec.{eqb}
+use lib.Dec.{eqb, lit<, lit≤}
 use borrow.Author.Tests.{eqb-true}
 use Rattle.common.specs.Outcome.{Outcome, value, refused}
 use Rattle.exchange_record.specs.declared.Pair.{Pair}
@@ -61,10 +61,10 @@ Rising (tagged i j p ∷ rs) = ((1 ≤ i) × (i < j) × (j ≤ 5)) × Rising rs
 
 rising-in : (rs : List Tagged) → Rising rs → (x y : ℕ) (p : Pair) → pairIn rs x y ≡ value p → (1 ≤ x) × (x < y) × (y ≤ 5)
 unfolding Rising
-rising-in [] r x y p e = let z : _≡_ {A = ℕ} 0 1 = cc in absurd (zero-one z)
+rising-in [] r x y p e = absurd (no-pair-of e)
   where
-    zero-one : _≡_ {A = ℕ} 0 1 → ⊥
-    zero-one z = omega arith
+    no-pair-of : _≡_ {A = Outcome Pair} (refused 14) (value p) → ⊥
+    no-pair-of e = let z : _≡_ {A = ℕ} 0 1 = cc in omega arith
 rising-in (tagged i j q ∷ rs) r x y p e = go (eqb x i) (eqb y j) refl refl (rising-in rs (r .1) x y p) e
   where
     go : (b c : Bool) → eqb x i ≡ b → eqb y j ≡ c → (pairIn rs x y ≡ value p → (1 ≤ x) × (x < y) × (y ≤ 5))
@@ -79,19 +79,7 @@ rising-in (tagged i j q ∷ rs) r x y p e = go (eqb x i) (eqb y j) refl refl (ri
 
 all-rising : Rising pairs
 unfolding Rising
-all-rising = (
-  (omega arith, omega arith, omega arith),
-  (
-    (omega arith, omega arith, omega arith),
-    (
-      (omega arith, omega arith, omega arith),
-      (
-        (omega arith, omega arith, omega arith),
-        ((omega arith, omega arith, omega arith), tt),
-      ),
-    ),
-  ),
-)
+all-rising = ((lit≤ tt, lit< tt, lit≤ tt), ((lit≤ tt, lit< tt, lit≤ tt), ((lit≤ tt, lit< tt, lit≤ tt), ((lit≤ tt, lit< tt, lit≤ tt), ((lit≤ tt, lit< tt, lit≤ tt), tt)))))
 
 pub rising : (x y : ℕ) (p : Pair) → pairOf x y ≡ value p → (1 ≤ x) × (x < y) × (y ≤ 5)
 rising = rising-in pairs all-rising

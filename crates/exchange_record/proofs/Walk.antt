@@ -1,19 +1,17 @@
 -- The reader's way through the fields: what it has passed, and that what follows decides the whole. Assumes nothing.
-use mathlib.Core.Path.{_≡_, refl, sym, ap, _∙_}
-use mathlib.Core.Bool.{true, false}
+use mathlib.Core.Path.{_≡_, refl, ap, _∙_}
 use mathlib.Core.Logic.{_⊎_, inl, inr, ⊎-elim}
 use mathlib.Core.List.{List, [], _∷_, _++_}
-use Prim.Native.Nat.{ℕ, _+_, _≤_, _<_}
+use Prim.Native.Nat.{ℕ, _+_, _≤_}
 use native.Mathlib.Omega.{arith}
-use lib.Dec.{leb}
 use lib.ListN.{length, drop, drop-of-length-le}
 use Rattle.common.specs.Outcome.{Outcome, value, refused}
 use Rattle.exchange_record.specs.declared.Asked.{Asked}
 use Rattle.exchange_record.specs.declared.Pair.{Pair}
 use Rattle.exchange_record.specs.declared.Cursor.{Cursor}
-use Rattle.exchange_record.specs.Grammar.{Field, said, Whole, AllWhole, spelt, encoded, word, known, pairOf, Forms, Accepted, Cut, skipped, taken, stopped, fateOf, lastTag, pairAmong, RefusedAfter, cut, stop, skip, take, unpaired, Refused}
+use Rattle.exchange_record.specs.Grammar.{Field, said, Whole, AllWhole, spelt, encoded, word, known, pairOf, Forms, Cut, skipped, taken, fateOf, lastTag, RefusedAfter, cut, stop, skip, take, unpaired, Refused}
 use Rattle.exchange_record.specs.Reading.{Means}
-use Rattle.exchange_record.specs.Walk.{lastOf, added, seenOf, askedBy, finished, FieldAt, Passed, Stops}
+use Rattle.exchange_record.specs.Walk.{lastOf, added, seenOf, askedBy, finished, Passed, Stops}
 use Rattle.exchange_record.proofs.Pairs.{paired-or-not}
 use Rattle.exchange_record.proofs.Fields.{taken-size, taken-known, skipped-unknown}
 
@@ -36,10 +34,6 @@ MeansAfter before s (refused n) = RefusedAfter before s n
 pub from-none : (s : List ℕ) (o : Outcome Asked) → MeansAfter [] s o → Means s o
 from-none s (value q) a = record { fields = a .fields; bytes = a .bytes; whole = a .whole; forms = a .forms }
 from-none s (refused n) r = r
-
-pub to-none : (s : List ℕ) (o : Outcome Asked) → Means s o → MeansAfter [] s o
-to-none s (value q) a = record { fields = a .fields; bytes = a .bytes; whole = a .whole; forms = a .forms }
-to-none s (refused n) r = r
 
 module _ (before : List Field) (s : List ℕ) (f : Field) (rest : List ℕ) (e : s ≡ spelt f ++ rest) (w : Whole f) where
   -- a field that is skipped

@@ -1,11 +1,13 @@
 -- Only helps proofs: what the reader keeps of the fields that it passed, and what one step of it comes to.
 use mathlib.Core.Path.{_≡_}
+use mathlib.Core.Bool.{cond, _&&_}
 use mathlib.Core.Logic.{_⊎_}
 use mathlib.Core.List.{List, [], _∷_, _++_}
 use Prim.Native.Nat.{ℕ, _+_, _*_, _≤_, _<_}
-use lib.ListN.{length, getD, take, drop}
+use lib.Dec.{leb, ltb, eqb}
+use lib.ListN.{length, getD, drop}
 use Rattle.common.specs.Outcome.{Outcome, value, refused, then}
-use Rattle.exchange_record.specs.Grammar.{Field, said, Whole, spelt, word, wordFrom, pairOf, Cut, Course, skipped, taken, stopped, fateOf}
+use Rattle.exchange_record.specs.Grammar.{Field, said, Whole, spelt, word, pairOf, Cut, Course, skipped, taken, stopped, fateOf}
 use Rattle.exchange_record.specs.Reading.{readNumber}
 use Rattle.exchange_record.specs.declared.Asked.{Asked}
 use Rattle.exchange_record.specs.declared.Seen.{Seen}
@@ -27,6 +29,11 @@ abbrev pub paperFate : Fate → Course
 paperFate fate.Skipped = skipped
 paperFate fate.Taken = taken
 paperFate (fate.Stopped k) = stopped (readNumber k)
+
+-- a field with a tag below 128
+abbrev pub lowFate : ℕ → ℕ → ℕ → Course
+lowFate last tag size =
+    cond (ltb 0 tag && leb tag 5) (cond (eqb size 8) (cond (leb tag last) (stopped 13) taken) (stopped 12)) (stopped 11)
 
 abbrev pub lastOf : Seen → ℕ
 lastOf Nothing = 0

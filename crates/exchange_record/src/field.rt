@@ -12,7 +12,7 @@ ghost use lib.Dec.{ltb, leb};
 ghost use Prim.Native.Nat.{_+_, _≤_, _<_};
 ghost use lib.ListN.{length};
 ghost use Rattle.exchange_record.specs.Grammar.{fateOf};
-ghost use Rattle.exchange_record.specs.Walk.{paperFate, lastOf, added, sizeAt, Stepped};
+ghost use Rattle.exchange_record.specs.Walk.{paperFate, lowFate, lastOf, added, sizeAt, Stepped};
 
 // The last known tag, 0 where there was none.
 fn last_of(seen: Seen) -> u8
@@ -50,13 +50,11 @@ fn known(tag: u8) -> bool
     if 0 < tag { tag <= 5 } else { false }
 }
 
-fn judge(last: u8, tag: u8, size: usize) -> Fate
-    ensures { λ r. ⌜ paperFate r ≡ fateOf last tag size ⌝ }
+// A field with a tag below 128: 11, 12, 13 in this order, or it is taken.
+fn judge_low(last: u8, tag: u8, size: usize) -> Fate
+    ensures { λ r. ⌜ paperFate r ≡ lowFate last tag size ⌝ }
 {
     let ours = known(tag);
-    if 128 <= tag {
-        return Fate::Skipped;
-    }
     if !ours {
         return Fate::Stopped(ReadRefusal::UnknownTag);
     }
@@ -67,6 +65,15 @@ fn judge(last: u8, tag: u8, size: usize) -> Fate
         return Fate::Stopped(ReadRefusal::OutOfOrder);
     }
     Fate::Taken
+}
+
+fn judge(last: u8, tag: u8, size: usize) -> Fate
+    ensures { λ r. ⌜ paperFate r ≡ fateOf last tag size ⌝ }
+{
+    if 128 <= tag {
+        return Fate::Skipped;
+    }
+    judge_low(last, tag, size)
 }
 
 // The length of a field, the high byte first.

@@ -2,7 +2,7 @@
 use buffer::wide;
 ghost use mathlib.Core.Path.{_≡_};
 ghost use Prim.Native.Nat.{_+_, _≤_, _<_, _^_};
-ghost use lib.ListN.{length, getD, take, drop};
+ghost use lib.ListN.{length, take, drop};
 ghost use Rattle.exchange_record.specs.Grammar.{word};
 ghost use Rattle.exchange_record.specs.Walk.{halfAt};
 

@@ -5,14 +5,15 @@ use mathlib.Core.Path.{_≡_, refl, sym, ap, _∙_}
 use mathlib.Core.Bool.{Bool, true, false, cond, not, _&&_}
 use mathlib.Core.List.{List, [], _∷_, _++_}
 use Prim.Native.Nat.{ℕ, suc, _+_, _*_, _/_, _%_, _^_, _≤_, _<_}
-use native.Mathlib.Nat.{zero-add, add-mul-div-left, add-mul-mod-self-left, div-eq-of-lt, mod-eq-of-lt, div-add-mod', div-div-eq-div-mul}
+use native.Mathlib.Nat.{zero-add, mod-lt, div-eq-of-lt, div-add-mod', div-div-eq-div-mul}
 use native.Mathlib.Omega.{arith}
-use lib.Dec.{T, lit<, eqb, ltb}
+use lib.Dec.{T, lit<, eqb}
+use lib.IntN.{ℤ}
 use lib.ListN.{length, take, drop}
-use lib.Seq.{sets, sets-eq, take-at}
+use lib.Seq.{sets-eq, take-at}
 use lib.Ieee.{Float, nan, inf, fin, binary64, fits, isNan, toBits, ofBits}
 use lib.Ieee.Bits.{toBits-lt, toBits-ofBits}
-use borrow.Author.Tests.{le-ltb, ltb-false, eqb-true}
+use borrow.Author.Tests.{le-ltb, eqb-true}
 use Rattle.common.specs.Outcome.{Outcome, value, refused}
 use Rattle.record.specs.declared.Record.{Record}
 use Rattle.record.specs.Record.{report}
@@ -23,14 +24,15 @@ use Rattle.region3.specs.Entries.{pTRule, phRule, psRule, hsRule}
 use Rattle.exchange_record.specs.declared.Pair.{Pair}
 use Rattle.exchange_record.specs.declared.Pair.the-variants as pair
 use Rattle.exchange_record.specs.declared.Asked.{Asked}
-use Rattle.exchange_record.specs.Grammar.{Field, said, Whole, AllWhole, spelt, encoded, word, wordFrom, known, Tagged, tagged, pairs, pairIn, pairOf, Forms, Accepted}
+use Rattle.exchange_record.specs.Grammar.{Field, Whole, AllWhole, spelt, encoded, word, wordFrom, known, Tagged, tagged, pairs, pairIn, pairOf, Accepted}
 use Rattle.exchange_record.specs.Reading.{Means}
 use Rattle.exchange_record.proofs.Exchange.{one-outcome}
 use Rattle.exchange_entry.specs.declared.Point.{Point}
 use Rattle.exchange_entry.specs.declared.Point.the-variants as at
 use Rattle.exchange_entry.specs.Call.{pointAt, pointOf, entryRule}
-use Rattle.exchange_writer.specs.Written.{high, numberField, twoFields, recordOf, roomRule, after, writeRule, askedFor}
-use Rattle.exchange_writer.proofs.Laws.{record-length}
+use Rattle.exchange_writer.specs.Written.{high, numberField, twoFields, recordOf, roomRule, after, judgedIn, writeRule, askedFor}
+use Rattle.common.proofs.Calls.{no-value}
+use Rattle.exchange_writer.proofs.Laws.{record-length, has-room, left, left-after}
 
 -- ---- a number and its bytes, the high byte first
 
@@ -47,14 +49,7 @@ word-high n h =
     let e7 : n / 2 ^ 56 ≡ 256 * (n / 2 ^ 64) + n / 2 ^ 56 % 256 = s (2 ^ 56) in
     let e8 : n / 2 ^ 64 ≡ 0 = div-eq-of-lt h in
     let w7 : 256 * 0 + n / 2 ^ 56 % 256 ≡ n / 2 ^ 56 = omega arith in
-    ap (λ (x : ℕ). wordFrom x (n / 2 ^ 48 % 256 ∷ n / 2 ^ 40 % 256 ∷ n / 2 ^ 32 % 256 ∷ n / 2 ^ 24 % 256 ∷ n / 2 ^ 16 % 256 ∷ n / 2 ^ 8 % 256 ∷ n % 256 ∷ [])) (w7)
-    ∙ ap (λ (x : ℕ). wordFrom x (n / 2 ^ 40 % 256 ∷ n / 2 ^ 32 % 256 ∷ n / 2 ^ 24 % 256 ∷ n / 2 ^ 16 % 256 ∷ n / 2 ^ 8 % 256 ∷ n % 256 ∷ [])) (sym e6)
-    ∙ ap (λ (x : ℕ). wordFrom x (n / 2 ^ 32 % 256 ∷ n / 2 ^ 24 % 256 ∷ n / 2 ^ 16 % 256 ∷ n / 2 ^ 8 % 256 ∷ n % 256 ∷ [])) (sym e5)
-    ∙ ap (λ (x : ℕ). wordFrom x (n / 2 ^ 24 % 256 ∷ n / 2 ^ 16 % 256 ∷ n / 2 ^ 8 % 256 ∷ n % 256 ∷ [])) (sym e4)
-    ∙ ap (λ (x : ℕ). wordFrom x (n / 2 ^ 16 % 256 ∷ n / 2 ^ 8 % 256 ∷ n % 256 ∷ [])) (sym e3)
-    ∙ ap (λ (x : ℕ). wordFrom x (n / 2 ^ 8 % 256 ∷ n % 256 ∷ [])) (sym e2)
-    ∙ ap (λ (x : ℕ). wordFrom x (n % 256 ∷ [])) (sym e1)
-    ∙ sym e0
+    rw (w7, ← e6, ← e5, ← e4, ← e3, ← e2, ← e1, ← e0)
   where
     split : (m : ℕ) → n / m ≡ 256 * (n / (m * 256)) + n / m % 256
     split m =
@@ -64,50 +59,6 @@ word-high n h =
 
     first : n ≡ 256 * (n / 2 ^ 8) + n % 256
     first = let d = div-add-mod' n 256 in omega arith
-
--- one byte of a number: what stands below it, the byte, what stands above
-digit : (n m r b q : ℕ) → 0 < m → r < m → b < 256 → n ≡ r + m * (b + 256 * q) → n / m % 256 ≡ b
-digit n m r b q p h k e =
-    ap (λ (x : ℕ). x / m % 256) e
-    ∙ ap (λ (x : ℕ). x % 256) (add-mul-div-left r (b + 256 * q) p ∙ ap (λ (x : ℕ). x + (b + 256 * q)) (div-eq-of-lt h) ∙ zero-add (b + 256 * q))
-    ∙ add-mul-mod-self-left b 256 q
-    ∙ mod-eq-of-lt k
-
-eight-same : {a b c d e f g h a' b' c' d' e' f' g' h' : ℕ} → a ≡ a' → b ≡ b' → c ≡ c' → d ≡ d' → e ≡ e' → f ≡ f' → g ≡ g' → h ≡ h'
-    → _≡_ {A = List ℕ} (a ∷ b ∷ c ∷ d ∷ e ∷ f ∷ g ∷ h ∷ []) (a' ∷ b' ∷ c' ∷ d' ∷ e' ∷ f' ∷ g' ∷ h' ∷ [])
-eight-same p q r s t u v w = cc
-
-module _ (a b c d e f g h : ℕ) (ha : a < 256) (hb : b < 256) (hc : c < 256) (hd : d < 256) (he : e < 256) (hf : f < 256) (hg : g < 256) (hh : h < 256) where
-  word-small : word (a ∷ b ∷ c ∷ d ∷ e ∷ f ∷ g ∷ h ∷ []) < 2 ^ 64
-  word-small = omega arith
-
-  high-word : high (word (a ∷ b ∷ c ∷ d ∷ e ∷ f ∷ g ∷ h ∷ [])) ≡ a ∷ b ∷ c ∷ d ∷ e ∷ f ∷ g ∷ h ∷ []
-  high-word =
-      let n : ℕ = word (a ∷ b ∷ c ∷ d ∷ e ∷ f ∷ g ∷ h ∷ []) in
-      let r1 : ℕ = h in
-      let r2 : ℕ = h + 2 ^ 8 * g in
-      let r3 : ℕ = r2 + 2 ^ 16 * f in
-      let r4 : ℕ = r3 + 2 ^ 24 * e in
-      let r5 : ℕ = r4 + 2 ^ 32 * d in
-      let r6 : ℕ = r5 + 2 ^ 40 * c in
-      let r7 : ℕ = r6 + 2 ^ 48 * b in
-      let q6 : ℕ = a in
-      let q5 : ℕ = b + 2 ^ 8 * a in
-      let q4 : ℕ = c + 2 ^ 8 * q5 in
-      let q3 : ℕ = d + 2 ^ 8 * q4 in
-      let q2 : ℕ = e + 2 ^ 8 * q3 in
-      let q1 : ℕ = f + 2 ^ 8 * q2 in
-      let q0 : ℕ = g + 2 ^ 8 * q1 in
-      let last : n ≡ h + 256 * q0 = omega arith in
-      eight-same
-      (digit n (2 ^ 56) r7 a 0 (lit< tt) (omega arith) ha (omega arith))
-      (digit n (2 ^ 48) r6 b q6 (lit< tt) (omega arith) hb (omega arith))
-      (digit n (2 ^ 40) r5 c q5 (lit< tt) (omega arith) hc (omega arith))
-      (digit n (2 ^ 32) r4 d q4 (lit< tt) (omega arith) hd (omega arith))
-      (digit n (2 ^ 24) r3 e q3 (lit< tt) (omega arith) he (omega arith))
-      (digit n (2 ^ 16) r2 f q2 (lit< tt) (omega arith) hf (omega arith))
-      (digit n (2 ^ 8) r1 g q1 (lit< tt) (omega arith) hg (omega arith))
-      (ap (λ (x : ℕ). x % 256) last ∙ add-mul-mod-self-left h 256 q0 ∙ mod-eq-of-lt hh)
 
 abbrev pub AllBytes : List ℕ → Type 0
 AllBytes [] = Unit
@@ -120,6 +71,32 @@ all-left (x ∷ xs) ys h = (h .0, all-left xs ys (h .1))
 all-right : (xs ys : List ℕ) → AllBytes (xs ++ ys) → AllBytes ys
 all-right [] ys h = h
 all-right (x ∷ xs) ys h = all-right xs ys (h .1)
+
+-- as many bytes that say the same number are the same bytes
+same-word : (xs ys : List ℕ) (a b : ℕ) → length xs ≡ length ys → AllBytes xs → AllBytes ys → wordFrom a xs ≡ wordFrom b ys → (a ≡ b) × (xs ≡ ys)
+same-word [] [] a b l h k e = (e, refl)
+same-word [] (y ∷ ys) a b l h k e = absurd (none l)
+  where
+    none : {n : ℕ} → 0 ≡ suc n → ⊥
+    none z = omega arith
+same-word (x ∷ xs) [] a b l h k e = absurd (none l)
+  where
+    none : {n : ℕ} → suc n ≡ 0 → ⊥
+    none z = omega arith
+same-word (x ∷ xs) (y ∷ ys) a b l h k e =
+    let r = same-word xs ys (256 * a + x) (256 * b + y) (omega arith) (h .1) (k .1) e in
+    let hx = h .0 in
+    let hy = k .0 in
+    let front = r .0 in
+    let ex : x ≡ y = omega arith in
+    let es : xs ≡ ys = r .1 in
+    (omega arith, (cc))
+
+byte : (n : ℕ) → n % 256 < 256
+byte n = mod-lt n (lit< tt)
+
+high-bytes : (n : ℕ) → AllBytes (high n)
+high-bytes n = (byte _, (byte _, (byte _, (byte _, (byte _, (byte _, (byte _, (byte _, tt))))))))
 
 not-eight : {A : Type 0} (n : ℕ) → (n ≡ 8 → ⊥) → n ≡ 8 → A
 not-eight n f e = absurd (f e)
@@ -135,17 +112,12 @@ eight-bytes (a ∷ b ∷ c ∷ d ∷ e ∷ []) l h = not-eight 5 (λ z. omega ar
 eight-bytes (a ∷ b ∷ c ∷ d ∷ e ∷ f ∷ []) l h = not-eight 6 (λ z. omega arith) l
 eight-bytes (a ∷ b ∷ c ∷ d ∷ e ∷ f ∷ g ∷ []) l h = not-eight 7 (λ z. omega arith) l
 eight-bytes (a ∷ b ∷ c ∷ d ∷ e ∷ f ∷ g ∷ i ∷ []) l h =
-    let ha = h .0 in
-    let h1 = h .1 in
-    let h2 = h1 .1 in
-    let h3 = h2 .1 in
-    let h4 = h3 .1 in
-    let h5 = h4 .1 in
-    let h6 = h5 .1 in
-    let h7 = h6 .1 in (
-      high-word a b c d e f g i ha (h1 .0) (h2 .0) (h3 .0) (h4 .0) (h5 .0) (h6 .0) (h7 .0),
-      word-small a b c d e f g i ha (h1 .0) (h2 .0) (h3 .0) (h4 .0) (h5 .0) (h6 .0) (h7 .0),
-    )
+    let xs : List ℕ = a ∷ b ∷ c ∷ d ∷ e ∷ f ∷ g ∷ i ∷ [] in
+    let small : word xs < 2 ^ 64 = fits a b c d e f g i h in
+    (same-word (high (word xs)) xs 0 0 refl (high-bytes (word xs)) h (word-high (word xs) small) .1, small)
+  where
+    fits : (a b c d e f g i : ℕ) → AllBytes (a ∷ b ∷ c ∷ d ∷ e ∷ f ∷ g ∷ i ∷ []) → word (a ∷ b ∷ c ∷ d ∷ e ∷ f ∷ g ∷ i ∷ []) < 2 ^ 64
+    fits a b c d e f g i h = omega (arith, h .0, h .1 .0, h .1 .1 .0, h .1 .1 .1 .0, h .1 .1 .1 .1 .0, h .1 .1 .1 .1 .1 .0, h .1 .1 .1 .1 .1 .1 .0, h .1 .1 .1 .1 .1 .1 .1 .0)
 eight-bytes (a ∷ b ∷ c ∷ d ∷ e ∷ f ∷ g ∷ i ∷ j ∷ xs) l h = absurd (long (length xs) l)
   where
     long : (n : ℕ) → suc (suc (suc (suc (suc (suc (suc (suc (suc n)))))))) ≡ 8 → ⊥
@@ -193,24 +165,20 @@ written-read (at.PH p e) h = two-read 1 4 (p .0) (e .0) pair.PH (h .0) (h .1) re
 written-read (at.PS p s) h = two-read 1 5 (p .0) (s .0) pair.PS (h .0) (h .1) refl refl
 written-read (at.HS e s) h = two-read 4 5 (e .0) (s .0) pair.HS (h .0) (h .1) refl refl
 
-value-refused : {A : Type 0} {x : A} {k : ℕ} → _≡_ {A = Outcome A} (value x) (refused k) → ⊥
-value-refused e = let z : _≡_ {A = ℕ} 0 1 = cc in omega arith
-
 -- what an accepted call of the writer leaves at the front is that record
 pub front-written : (x : Point) (found out : List ℕ) → writeRule x found ≡ (value tt, out) → take 22 out ≡ recordOf x
-front-written x found out e = go (report (entryRule x) .0) e
+front-written x found out e = go (judgedIn (length found) verdict) refl (sym (left-after verdict x found) ∙ e)
   where
-    room : (b : Bool) → ltb (length found) 22 ≡ b → _≡_ {A = Outcome Unit × List ℕ} (cond b (refused 16, found) (value tt, sets found 0 (recordOf x))) (value tt, out) → take 22 out ≡ recordOf x
-    room true t h = absurd (value-refused (sym (ap (λ (z : Outcome Unit × List ℕ). z .0) h)))
-    room false t h =
-        let l : 22 ≤ length found = ltb-false (length found) 22 t in
+    verdict : Outcome Unit
+    verdict = report (entryRule x) .0
+
+    go : (o : Outcome Unit) → judgedIn (length found) verdict ≡ o → left o x found ≡ (value tt, out) → take 22 out ≡ recordOf x
+    go (refused k) r h = absurd (no-value (ap (λ (z : Outcome Unit × List ℕ). z .0) h))
+    go (value u) r h =
+        let l : 22 ≤ length found = has-room (length found) verdict u r in
         let n : length (recordOf x) ≡ 22 = record-length x in
         ap (take 22) (sym (ap (λ (z : Outcome Unit × List ℕ). z .1) h) ∙ sets-eq (recordOf x) found 0 (omega arith))
         ∙ take-at (recordOf x) (drop (0 + length (recordOf x)) found) 22 n
-
-    go : (o : Outcome Unit) → after o x found ≡ (value tt, out) → take 22 out ≡ recordOf x
-    go (value u) h = room (ltb (length found) 22) refl h
-    go (refused k) h = absurd (value-refused (sym (ap (λ (z : Outcome Unit × List ℕ). z .0) h)))
 
 -- so whatever the reader may answer to it is that pair with those bits
 pub read-back : (x : Point) → AreF64 x → (found out : List ℕ) → writeRule x found ≡ (value tt, out) → (o : Outcome Asked) → Means (take 22 out) o → o ≡ value (askedFor x)
@@ -219,37 +187,26 @@ read-back x h found out e o m =
 
 -- ---- read, then written
 
-value-is : {k : ℕ} {r : Record} → _≡_ {A = Outcome Record} (refused k) (value r) → ⊥
-value-is e = let z : _≡_ {A = ℕ} 0 1 = cc in omega arith
+-- an entry accepts no NaN: its first test is of its two numbers
+module _ (rule : Float → Float → Outcome Record) (n : (b : Float) → rule nan b ≡ refused 1) (i : (s : Bool) → rule (inf s) nan ≡ refused 1)
+    (f : (s : Bool) (m : ℕ) (x : ℤ) → rule (fin s m x) nan ≡ refused 1) where
+  two-numbers : (a b : Float) (r : Record) → rule a b ≡ value r → T (not (isNan a)) × T (not (isNan b))
+  unfolding isNan
+  two-numbers nan b r e = absurd (no-value (sym (n b) ∙ e))
+  two-numbers (inf s) nan r e = absurd (no-value (sym (i s) ∙ e))
+  two-numbers (fin s m x) nan r e = absurd (no-value (sym (f s m x) ∙ e))
+  two-numbers (inf s) (inf t) r e = (tt, tt)
+  two-numbers (inf s) (fin t k y) r e = (tt, tt)
+  two-numbers (fin s m x) (inf t) r e = (tt, tt)
+  two-numbers (fin s m x) (fin t k y) r e = (tt, tt)
 
--- an entry accepts no NaN
 numbers : (p : Pair) (a b : Float) (r : Record) → entryRule (pointAt p a b) ≡ value r → T (not (isNan a)) × T (not (isNan b))
-unfolding isNan pTRule foundRule originRule recordRule phRule psRule hsRule hs2p-reg3Rule
-numbers pair.PT nan b r e = absurd (value-is e)
-numbers pair.PT (inf s) b r e = absurd (value-is e)
-numbers pair.PT (fin s m x) nan r e = absurd (value-is e)
-numbers pair.PT (fin s m x) (inf t) r e = absurd (value-is e)
-numbers pair.PT (fin s m x) (fin t n y) r e = (tt, tt)
-numbers pair.TD nan b r e = absurd (value-is e)
-numbers pair.TD (inf s) b r e = absurd (value-is e)
-numbers pair.TD (fin s m x) nan r e = absurd (value-is e)
-numbers pair.TD (fin s m x) (inf t) r e = absurd (value-is e)
-numbers pair.TD (fin s m x) (fin t n y) r e = (tt, tt)
-numbers pair.PH nan b r e = absurd (value-is e)
-numbers pair.PH (inf s) b r e = absurd (value-is e)
-numbers pair.PH (fin s m x) nan r e = absurd (value-is e)
-numbers pair.PH (fin s m x) (inf t) r e = absurd (value-is e)
-numbers pair.PH (fin s m x) (fin t n y) r e = (tt, tt)
-numbers pair.PS nan b r e = absurd (value-is e)
-numbers pair.PS (inf s) b r e = absurd (value-is e)
-numbers pair.PS (fin s m x) nan r e = absurd (value-is e)
-numbers pair.PS (fin s m x) (inf t) r e = absurd (value-is e)
-numbers pair.PS (fin s m x) (fin t n y) r e = (tt, tt)
-numbers pair.HS nan b r e = absurd (value-is e)
-numbers pair.HS (inf s) b r e = absurd (value-is e)
-numbers pair.HS (fin s m x) nan r e = absurd (value-is e)
-numbers pair.HS (fin s m x) (inf t) r e = absurd (value-is e)
-numbers pair.HS (fin s m x) (fin t n y) r e = (tt, tt)
+unfolding pTRule foundRule originRule recordRule phRule psRule hsRule hs2p-reg3Rule
+numbers pair.PT = two-numbers pTRule (λ b. refl) (λ s. refl) (λ s m x. refl)
+numbers pair.TD = two-numbers recordRule (λ b. refl) (λ s. refl) (λ s m x. refl)
+numbers pair.PH = two-numbers phRule (λ b. refl) (λ s. refl) (λ s m x. refl)
+numbers pair.PS = two-numbers psRule (λ b. refl) (λ s. refl) (λ s m x. refl)
+numbers pair.HS = two-numbers hsRule (λ b. refl) (λ s. refl) (λ s m x. refl)
 
 -- a pair is written with the tags that it is read by
 Matched : List Tagged → Type 0
@@ -258,10 +215,7 @@ Matched (tagged i j p ∷ rs) = ((a b : Float) → recordOf (pointAt p a b) ≡ 
 
 same-tags : (rs : List Tagged) → Matched rs → (x y : ℕ) (p : Pair) (a b : Float) → pairIn rs x y ≡ value p → recordOf (pointAt p a b) ≡ twoFields x a y b
 unfolding Matched
-same-tags [] m x y p a b e = absurd (none e)
-  where
-    none : _≡_ {A = Outcome Pair} (refused 14) (value p) → ⊥
-    none e = let z : _≡_ {A = ℕ} 0 1 = cc in omega arith
+same-tags [] m x y p a b e = absurd (no-value e)
 same-tags (tagged i j q ∷ rs) m x y p a b e = go (eqb x i) (eqb y j) refl refl (same-tags rs (m .1) x y p a b) e
   where
     go : (s t : Bool) → eqb x i ≡ s → eqb y j ≡ t → (pairIn rs x y ≡ value p → recordOf (pointAt p a b) ≡ twoFields x a y b)

@@ -1,13 +1,13 @@
 -- To believe: the record of a point, in the grammar that the reader goes by, and where it is written: the entry's own refusals, then 16, then 22 bytes at the
 -- front and every other byte as found. Assumes nothing: these are definitions.
 use mathlib.Core.Bool.{cond}
-use mathlib.Core.List.{List, [], _∷_, _++_}
+use mathlib.Core.List.{List, [], _∷_}
 use Prim.Native.Nat.{ℕ, _/_, _%_, _^_}
 use lib.Dec.{eqb, ltb}
 use lib.ListN.{length}
 use lib.Seq.{sets}
 use lib.Ieee.{Float, binary64, toBits}
-use Rattle.common.specs.Outcome.{Outcome, value, refused, numberIn}
+use Rattle.common.specs.Outcome.{Outcome, value, refused, then, numberIn}
 use Rattle.common.specs.Answer.{numberOf}
 use Rattle.record.specs.Record.{report}
 use Rattle.exchange_record.specs.declared.Asked.{Asked}
@@ -21,6 +21,8 @@ use Rattle.exchange_writer.specs.declared.WriteRefusal.{WriteRefusal}
 use Rattle.exchange_writer.specs.declared.WriteRefusal.the-variants.{Entry, Room}
 use Rattle.exchange_writer.specs.declared.WriteVerdict.{WriteVerdict}
 use Rattle.exchange_writer.specs.declared.WriteVerdict.the-variants as verdict
+use Rattle.exchange_writer.specs.declared.PairAnswer.{PairAnswer}
+use Rattle.exchange_writer.specs.declared.PairAnswer.the-variants as named
 
 -- the eight bytes of a number below 2^64, the high byte first
 abbrev pub high : ℕ → List ℕ
@@ -87,3 +89,15 @@ writtenFor (refused k) a b found = (k, found)
 
 abbrev pub writtenBy : ℕ → Float → Float → List ℕ → ℕ × List ℕ
 writtenBy n = writtenFor (pairBy n)
+
+abbrev pub paperPair : PairAnswer → Outcome Pair
+paperPair (named.Value p) = value p
+paperPair named.Unknown = refused 255
+
+-- ---- Helps proofs only: whether a point is written, by its entry's verdict and the room
+
+abbrev pub inRoom : ℕ → Outcome Unit
+inRoom n = cond (ltb n 22) (refused 16) (value tt)
+
+abbrev pub judgedIn : ℕ → Outcome Unit → Outcome Unit
+judgedIn n o = then o (λ _. inRoom n)

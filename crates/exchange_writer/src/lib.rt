@@ -1,20 +1,20 @@
 // The exchange record written: two fields in rising tags, 22 bytes, of a point that its own entry accepts.
 use buffer::put_float;
-use common::KJPerKg;
-use common::KJPerKgK;
-use common::Kelvin;
-use common::KgPerM3;
-use common::MPa;
 use common::Refusal;
 use common::Verdict;
 use common::number;
 use exchange_entry::Point;
 use exchange_entry::ask;
+use exchange_entry::point_at;
+use exchange_record::Pair;
 use record::blank;
 ghost use mathlib.Core.Path.{_≡_};
+ghost use Prim.Native.Nat.{_≤_};
+ghost use lib.ListN.{length};
+ghost use lib.Seq.{sets};
 ghost use Rattle.common.specs.Outcome.{numberIn};
 ghost use Rattle.common.specs.Answer.{paperVerdict};
-ghost use Rattle.exchange_writer.specs.Written.{twoFields, recordOf, roomRule, after, writeRule, paperWrite, writeNumber, writtenBy};
+ghost use Rattle.exchange_writer.specs.Written.{twoFields, recordOf, inRoom, judgedIn, writeRule, paperWrite, writeNumber, paperPair, pairBy, writtenBy};
 
 // Why a point is not written: its entry's own refusal, or fewer than 22 bytes lent.
 pub enum WriteRefusal {
@@ -74,24 +74,30 @@ fn record_of(point: Point) -> [u8; 22]
     }
 }
 
-// The record of an accepted point, where it has room.
-fn put(point: Point, out: &mut [u8]) -> WriteVerdict
-    ensures { λ r. ⌜ (paperWrite r, now (out .exit)) ≡ roomRule point (now (out .entry)) ⌝ }
+// The record of a point, at the front of bytes that have room for it.
+fn put(point: Point, out: &mut [u8])
+    requires { ⌜ 22 ≤ length (now out) ⌝ }
+    ensures { λ _. ⌜ now (out .exit) ≡ sets (now (out .entry)) 0 (recordOf point) ⌝ }
 {
-    if out.len() < 22 {
-        return WriteVerdict::Refused(WriteRefusal::Room);
-    }
     let bytes = record_of(point);
     text::put(out, 0, &bytes);
+}
+
+fn in_room(room: usize) -> WriteVerdict
+    ensures { λ r. ⌜ paperWrite r ≡ inRoom room ⌝ }
+{
+    if room < 22 {
+        return WriteVerdict::Refused(WriteRefusal::Room);
+    }
     WriteVerdict::Accepted
 }
 
-// By the entry's verdict.
-fn put_if(verdict: Verdict, point: Point, out: &mut [u8]) -> WriteVerdict
-    ensures { λ r. ⌜ (paperWrite r, now (out .exit)) ≡ after (paperVerdict verdict) point (now (out .entry)) ⌝ }
+// The entry's verdict, and then the room's.
+fn judged(verdict: Verdict, room: usize) -> WriteVerdict
+    ensures { λ r. ⌜ paperWrite r ≡ judgedIn room (paperVerdict verdict) ⌝ }
 {
     match verdict {
-        Verdict::Accepted => put(point, out),
+        Verdict::Accepted => in_room(room),
         Verdict::Refused(k) => WriteVerdict::Refused(WriteRefusal::Entry(k)),
     }
 }
@@ -102,7 +108,15 @@ pub fn write(point: Point, out: &mut [u8]) -> WriteVerdict
 {
     let answer = ask(blank(), point);
     let verdict = answer.verdict;
-    put_if(verdict, point, out)
+    match judged(verdict, out.len()) {
+        WriteVerdict::Accepted => {
+            put(point, out);
+            return WriteVerdict::Accepted;
+        }
+        WriteVerdict::Refused(k) => {
+            return WriteVerdict::Refused(k);
+        }
+    }
 }
 
 fn refusal_number(k: WriteRefusal) -> u8
@@ -127,16 +141,31 @@ pub fn write_number(v: WriteVerdict) -> u8
 // The refusal of a pair byte that names none.
 pub const NO_PAIR: u8 = 255;
 
+// The pair that a byte names.
+pub enum PairAnswer {
+    Value(Pair),
+    Unknown,
+}
+
+fn pair_by(byte: u8) -> PairAnswer
+    ensures { λ r. ⌜ paperPair r ≡ pairBy byte ⌝ }
+{
+    match byte {
+        1 => PairAnswer::Value(Pair::PT),
+        2 => PairAnswer::Value(Pair::TD),
+        3 => PairAnswer::Value(Pair::PH),
+        4 => PairAnswer::Value(Pair::PS),
+        5 => PairAnswer::Value(Pair::HS),
+        _ => PairAnswer::Unknown,
+    }
+}
+
 // A point by the byte of its pair, for callers that have no units: its number, 255 where the byte names no pair.
 pub fn write_by(pair: u8, a: f64, b: f64, out: &mut [u8]) -> u8
     ensures { λ r. ⌜ (r, now (out .exit)) ≡ writtenBy pair a b (now (out .entry)) ⌝ }
 {
-    match pair {
-        1 => write_number(write(Point::PT(MPa(a), Kelvin(b)), out)),
-        2 => write_number(write(Point::TD(Kelvin(a), KgPerM3(b)), out)),
-        3 => write_number(write(Point::PH(MPa(a), KJPerKg(b)), out)),
-        4 => write_number(write(Point::PS(MPa(a), KJPerKgK(b)), out)),
-        5 => write_number(write(Point::HS(KJPerKg(a), KJPerKgK(b)), out)),
-        _ => NO_PAIR,
+    match pair_by(pair) {
+        PairAnswer::Value(p) => write_number(write(point_at(p, a, b), out)),
+        PairAnswer::Unknown => NO_PAIR,
     }
 }

@@ -1,16 +1,17 @@
-// Calls the exported functions of region3_c themselves on stored rows, and holds what each writes to the oracle's answer: for each entry how
-// many rows there are and how many are answered otherwise. A record is a row of 24 bytes and its answer of 88, as for `replay`; the entry's
-// number says which function is meant. What a call is to write is found full of a number that no call answers.
+// Calls the exported functions of region3_c themselves: rows of 24 bytes from standard input as `answers` has them, and for each on standard output
+// the 88 bytes of what the call wrote. The entry's number says which function is meant; 31 stands for the column run on columns of given lengths.
+// What a call is to write is found full of a number that no call answers.
 use buffer::byte_at;
 use buffer::float_at;
 use buffer::int_at;
+use common::least;
+use libc::STDOUT_FILENO;
 use reply::Reply;
-use tally::Tally;
-use tally::judged;
-use tally::say;
-use tally::say_counts;
-use tally::say_number;
-use tally::say_tally;
+use reply::put_reply;
+ghost use Prim.Native.Nat.{_≤_};
+
+// The loop ends by this number of rows, which no run reaches.
+const MOST: u64 = 0xffff_ffff_ffff_ffff;
 
 const FOUND: f64 = -90.5;
 
@@ -145,75 +146,75 @@ fn call(entry: u8, n: i32, a: f64, b: f64) -> Reply {
     }
 }
 
-fn agrees(row: &[u8]) -> bool {
-    reply::agrees(
-        row,
-        call(
-            byte_at(row, 0),
-            int_at(row, 4),
-            float_at(row, 8),
-            float_at(row, 16),
-        ),
-    )
+fn length_at(row: &[u8], at: usize) -> usize
+    ensures { λ r. ⌜ r ≤ 5 ⌝ }
+{
+    least(byte_at(row, at) as usize, 5)
 }
 
-// Nothing says that a file ends, so the records are counted down from a number that no run uses up.
-fn judge_file(fd: i32, rows: &mut [u64], differ: &mut [u64]) -> Tally {
-    let mut t = Tally {
-        rows: 0,
-        differ: 0,
-        left: 0,
-    };
-    let mut row = [0u8; 112];
-    let mut most = u64::MAX;
-    while most > 0 {
-        let have = io::read_full(fd, &mut row);
-        if have < 112 {
-            t.left = have;
-            return t;
-        }
-        t = judged(t, byte_at(&row, 0), agrees(&row), rows, differ);
-        most -= 1;
+// The column run on columns of the lengths that bytes 1 to 5 of a row say, of p, T, letters, densities and refusals: its refusal, and the five cells
+// of each lent column as they are afterwards.
+fn columns_bytes(row: &[u8]) -> [u8; 88] {
+    let mut out = [0u8; 88];
+    let ps = [float_at(row, 8); 5];
+    let ts = [float_at(row, 16); 5];
+    let mut letters = [FOUND_BYTE; 5];
+    let mut densities = [FOUND; 5];
+    let mut refusals = [FOUND_BYTE; 5];
+    let p = length_at(row, 1);
+    let t = length_at(row, 2);
+    let l = length_at(row, 3);
+    let d = length_at(row, 4);
+    let r = length_at(row, 5);
+    out[0] = region3_c::r3_columns(
+        &ps[..p],
+        &ts[..t],
+        &mut letters[..l],
+        &mut densities[..d],
+        &mut refusals[..r],
+    );
+    let mut k = 0;
+    while k < 5 {
+        out[8 + k] = letters[k];
+        out[16 + k] = refusals[k];
+        buffer::put_float(&mut out, 24 + 8 * k, densities[k]);
+        k += 1;
     }
-    t
+    out
 }
 
-fn say_entries(rows: &[u64; 38], differ: &[u64; 38]) {
-    let mut e = 0;
-    while e < 38 {
-        if rows[e] > 0 {
-            say_number(b"entry ", e as u64);
-            say_counts(rows[e], differ[e]);
-        }
-        e += 1;
+fn reply_to(row: &[u8]) -> [u8; 88] {
+    let entry = byte_at(row, 0);
+    if entry == 31 {
+        return columns_bytes(row);
     }
-}
-
-// Columns of unequal length are refused with 7.
-fn say_unequal() {
-    let ps = [24.0; 2];
-    let ts = [650.0; 1];
-    let mut letters = [FOUND_BYTE; 1];
-    let mut densities = [FOUND; 1];
-    let mut refusals = [FOUND_BYTE; 1];
-    let verdict = region3_c::r3_columns(&ps, &ts, &mut letters, &mut densities, &mut refusals);
-    say_number(b"columns of unequal length: refusal ", verdict as u64);
-    say_number(b" letter ", buffer::wide(letters[0]));
-    say_number(b" row's refusal ", buffer::wide(refusals[0]));
-    say(b"\n");
+    let mut out = [0u8; 88];
+    put_reply(
+        &mut out,
+        0,
+        call(entry, int_at(row, 4), float_at(row, 8), float_at(row, 16)),
+    );
+    out
 }
 
 fn main() {
-    let fd = os::open_read(b"rows.bin");
-    if fd < 0 {
-        say(b"not read\n");
+    if stdio::from_terminal(
+        b"exported_calls: what each exported call writes: reads rows of 24 bytes (entry, number, two f64) from a file or a pipe, not from a terminal\n",
+    ) {
         return;
     }
-    let mut rows = [0u64; 38];
-    let mut differ = [0u64; 38];
-    let t = judge_file(fd, &mut rows, &mut differ);
-    libc::close(fd);
-    say_entries(&rows, &differ);
-    say_tally(t);
-    say_unequal();
+    let mut done: u64 = 0;
+    while done < MOST {
+        let mut row = [0u8; 24];
+        let reading = stdio::read_until_full(b"exported_calls: standard input", &mut row);
+        let have = reading.have;
+        let stop = reading.stop;
+        if !pages::go_on(b"exported_calls: rows ", stop, done, have as u64) {
+            return;
+        }
+        if !stdio::send(b"exported_calls: writing", STDOUT_FILENO, &reply_to(&row)) {
+            return;
+        }
+        done += 1;
+    }
 }

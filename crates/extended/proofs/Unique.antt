@@ -1,88 +1,54 @@
--- Each contract admits one answer. The theorems are about the contracts' own readings, `Reads.Post`.
+-- Each contract admits one answer: each is that of its formula's number (`numbers`) or of its answer (`answers`), and of such a contract any two results
+-- coincide (`number-one`, `answer-one`). The theorems are about the contracts' own readings, `Reads.Post`.
+use mathlib.Core.Path.{_≡_, refl}
+use borrow.Fn.Kinds.{Out}
+use Rattle.common.specs.Outcome.{check}
+use Rattle.common.specs.Answer.{paper}
 use Rattle.common.proofs.Same.{One, same-answer}
+use Rattle.helmholtz.specs.Number.{Number}
 use Rattle.helmholtz.proofs.Numbers.{one-number}
-use Rattle.extended.proofs.region3_Td_ext.raw_f.Kinds as raw-f-kinds
+use Rattle.properties.specs.Td.{Formula}
+use Rattle.extended.specs.Ext.{Td2f, Td2g, Td2z, Td2ks, Td2kt, Td2ec, Td2joule, Td2iJTC, Td2pc, Td2dvdpct, Td2dpdtcv, Td2dvdtcp, Td2e, Td2batap, Td2fi, Td2fu, Td2alfap}
+use Rattle.extended.proofs.region3_Td_ext.raw_f.Kinds as raws
+use Rattle.extended.proofs.region3_Td_ext.state_z.Kinds as states
 use Rattle.extended.proofs.region3_Td_ext.raw_f.Reads as raw-f
-use Rattle.extended.proofs.region3_Td_ext.raw_g.Kinds as raw-g-kinds
 use Rattle.extended.proofs.region3_Td_ext.raw_g.Reads as raw-g
-use Rattle.extended.proofs.region3_Td_ext.raw_dvdpct.Kinds as raw-dvdpct-kinds
 use Rattle.extended.proofs.region3_Td_ext.raw_dvdpct.Reads as raw-dvdpct
-use Rattle.extended.proofs.region3_Td_ext.raw_kt.Kinds as raw-kt-kinds
 use Rattle.extended.proofs.region3_Td_ext.raw_kt.Reads as raw-kt
-use Rattle.extended.proofs.region3_Td_ext.raw_dvdtcp.Kinds as raw-dvdtcp-kinds
 use Rattle.extended.proofs.region3_Td_ext.raw_dvdtcp.Reads as raw-dvdtcp
-use Rattle.extended.proofs.region3_Td_ext.raw_ec.Kinds as raw-ec-kinds
 use Rattle.extended.proofs.region3_Td_ext.raw_ec.Reads as raw-ec
-use Rattle.extended.proofs.region3_Td_ext.raw_dpdtcv.Kinds as raw-dpdtcv-kinds
 use Rattle.extended.proofs.region3_Td_ext.raw_dpdtcv.Reads as raw-dpdtcv
-use Rattle.extended.proofs.region3_Td_ext.raw_joule.Kinds as raw-joule-kinds
 use Rattle.extended.proofs.region3_Td_ext.raw_joule.Reads as raw-joule
-use Rattle.extended.proofs.region3_Td_ext.raw_iJTC.Kinds as raw-iJTC-kinds
 use Rattle.extended.proofs.region3_Td_ext.raw_iJTC.Reads as raw-iJTC
-use Rattle.extended.proofs.region3_Td_ext.raw_e.Kinds as raw-e-kinds
 use Rattle.extended.proofs.region3_Td_ext.raw_e.Reads as raw-e
-use Rattle.extended.proofs.region3_Td_ext.raw_fi.Kinds as raw-fi-kinds
 use Rattle.extended.proofs.region3_Td_ext.raw_fi.Reads as raw-fi
-use Rattle.extended.proofs.region3_Td_ext.state_z.Kinds as state-z-kinds
 use Rattle.extended.proofs.region3_Td_ext.state_z.Reads as state-z
-use Rattle.extended.proofs.region3_Td_ext.state_ks.Kinds as state-ks-kinds
 use Rattle.extended.proofs.region3_Td_ext.state_ks.Reads as state-ks
-use Rattle.extended.proofs.region3_Td_ext.state_batap.Kinds as state-batap-kinds
 use Rattle.extended.proofs.region3_Td_ext.state_batap.Reads as state-batap
-use Rattle.extended.proofs.region3_Td_ext.state_fu.Kinds as state-fu-kinds
 use Rattle.extended.proofs.region3_Td_ext.state_fu.Reads as state-fu
-use Rattle.extended.proofs.region3_Td_ext.state_pc.Kinds as state-pc-kinds
 use Rattle.extended.proofs.region3_Td_ext.state_pc.Reads as state-pc
-use Rattle.extended.proofs.region3_Td_ext.state_alfap.Kinds as state-alfap-kinds
 use Rattle.extended.proofs.region3_Td_ext.state_alfap.Reads as state-alfap
 
-pub raw-f-one : One 0 raw-f-kinds.ps raw-f-kinds.r raw-f.Post
-raw-f-one κs a e x y p q = one-number p q
+abbrev number-of : Formula → Out 0 raws.ps raws.r
+number-of f κs a x e = Number (f (check (a .0 .0)) (check (a .1 .0 .0))) x
 
-pub raw-g-one : One 0 raw-g-kinds.ps raw-g-kinds.r raw-g.Post
-raw-g-one κs a e x y p q = one-number p q
+abbrev answer-of : Formula → Out 0 states.ps states.r
+answer-of f κs a x e = paper x ≡ f (check (a .0 .0)) (check (a .1 .0 .0))
 
-pub raw-dvdpct-one : One 0 raw-dvdpct-kinds.ps raw-dvdpct-kinds.r raw-dvdpct.Post
-raw-dvdpct-one κs a e x y p q = one-number p q
+pub number-one : (f : Formula) → One 0 raws.ps raws.r (number-of f)
+number-one f κs a e x y p q = one-number p q
 
-pub raw-kt-one : One 0 raw-kt-kinds.ps raw-kt-kinds.r raw-kt.Post
-raw-kt-one κs a e x y p q = one-number p q
+pub answer-one : (f : Formula) → One 0 states.ps states.r (answer-of f)
+answer-one f κs a e x y p q = same-answer _ x y p q
 
-pub raw-dvdtcp-one : One 0 raw-dvdtcp-kinds.ps raw-dvdtcp-kinds.r raw-dvdtcp.Post
-raw-dvdtcp-one κs a e x y p q = one-number p q
+pub numbers :
+    (raw-f.Post ≡ number-of Td2f) × (raw-g.Post ≡ number-of Td2g) × (raw-dvdpct.Post ≡ number-of Td2dvdpct) × (raw-kt.Post ≡ number-of Td2kt)
+    × (raw-dvdtcp.Post ≡ number-of Td2dvdtcp) × (raw-ec.Post ≡ number-of Td2ec) × (raw-dpdtcv.Post ≡ number-of Td2dpdtcv)
+    × (raw-joule.Post ≡ number-of Td2joule) × (raw-iJTC.Post ≡ number-of Td2iJTC) × (raw-e.Post ≡ number-of Td2e)
+    × (raw-fi.Post ≡ number-of Td2fi)
+numbers = (refl, refl, refl, refl, refl, refl, refl, refl, refl, refl, refl)
 
-pub raw-ec-one : One 0 raw-ec-kinds.ps raw-ec-kinds.r raw-ec.Post
-raw-ec-one κs a e x y p q = one-number p q
-
-pub raw-dpdtcv-one : One 0 raw-dpdtcv-kinds.ps raw-dpdtcv-kinds.r raw-dpdtcv.Post
-raw-dpdtcv-one κs a e x y p q = one-number p q
-
-pub raw-joule-one : One 0 raw-joule-kinds.ps raw-joule-kinds.r raw-joule.Post
-raw-joule-one κs a e x y p q = one-number p q
-
-pub raw-iJTC-one : One 0 raw-iJTC-kinds.ps raw-iJTC-kinds.r raw-iJTC.Post
-raw-iJTC-one κs a e x y p q = one-number p q
-
-pub raw-e-one : One 0 raw-e-kinds.ps raw-e-kinds.r raw-e.Post
-raw-e-one κs a e x y p q = one-number p q
-
-pub raw-fi-one : One 0 raw-fi-kinds.ps raw-fi-kinds.r raw-fi.Post
-raw-fi-one κs a e x y p q = one-number p q
-
-pub state-z-one : One 0 state-z-kinds.ps state-z-kinds.r state-z.Post
-state-z-one κs a e x y p q = same-answer _ x y p q
-
-pub state-ks-one : One 0 state-ks-kinds.ps state-ks-kinds.r state-ks.Post
-state-ks-one κs a e x y p q = same-answer _ x y p q
-
-pub state-batap-one : One 0 state-batap-kinds.ps state-batap-kinds.r state-batap.Post
-state-batap-one κs a e x y p q = same-answer _ x y p q
-
-pub state-fu-one : One 0 state-fu-kinds.ps state-fu-kinds.r state-fu.Post
-state-fu-one κs a e x y p q = same-answer _ x y p q
-
-pub state-pc-one : One 0 state-pc-kinds.ps state-pc-kinds.r state-pc.Post
-state-pc-one κs a e x y p q = same-answer _ x y p q
-
-pub state-alfap-one : One 0 state-alfap-kinds.ps state-alfap-kinds.r state-alfap.Post
-state-alfap-one κs a e x y p q = same-answer _ x y p q
+pub answers :
+    (state-z.Post ≡ answer-of Td2z) × (state-ks.Post ≡ answer-of Td2ks) × (state-batap.Post ≡ answer-of Td2batap)
+    × (state-fu.Post ≡ answer-of Td2fu) × (state-pc.Post ≡ answer-of Td2pc) × (state-alfap.Post ≡ answer-of Td2alfap)
+answers = (refl, refl, refl, refl, refl, refl)

@@ -4,9 +4,7 @@ use buffer::byte_at;
 use buffer::float_at;
 use common::least;
 use exchange_writer::write_by;
-use libc::STDERR_FILENO;
 use libc::STDOUT_FILENO;
-use stdio::Stop;
 
 // The loop ends by this number of rows, which no run reaches.
 const MOST: u64 = 0xffff_ffff_ffff_ffff;
@@ -36,57 +34,24 @@ fn reply(row: &[u8]) -> [u8; 48] {
     out
 }
 
-// Says how many rows were answered, and how many bytes are left after them.
-fn say_end(done: u64, left: usize) {
-    stdio::say(b"forward: rows ");
-    io::print_decimal(STDERR_FILENO, done);
-    stdio::say(b" left ");
-    io::print_decimal(STDERR_FILENO, left as u64);
-    stdio::say(b"\n");
-}
-
-fn send_reply(row: &[u8]) -> bool {
-    let bytes = reply(row);
-    stdio::send(b"forward: writing", STDOUT_FILENO, &bytes)
-}
-
-// One turn: a row. Answers whether to go on.
-fn turn(done: u64) -> bool {
-    let mut row = [0u8; 24];
-    let reading = stdio::read_until_full(b"forward: standard input", &mut row);
-    let have = reading.have;
-    let stop = reading.stop;
-    match stop {
-        Stop::Full => send_reply(&row),
-        Stop::Ended => {
-            if have > 0 {
-                say_end(done, have);
-            }
-            false
-        }
-        Stop::Failed => {
-            say_end(done, have);
-            false
-        }
-    }
-}
-
-fn run() {
-    let mut done: u64 = 0;
-    while done < MOST {
-        if !turn(done) {
-            return;
-        }
-        done += 1;
-    }
-    stdio::say(b"forward: no number is left for the next row\n");
-}
-
 fn main() {
     if stdio::from_terminal(
         b"forward: the exchange record of each row: reads rows of 24 bytes (pair, room, fill byte, two f64) from a file or a pipe, not from a terminal\n",
     ) {
         return;
     }
-    run();
+    let mut done: u64 = 0;
+    while done < MOST {
+        let mut row = [0u8; 24];
+        let reading = stdio::read_until_full(b"forward: standard input", &mut row);
+        let have = reading.have;
+        let stop = reading.stop;
+        if !pages::go_on(b"forward: rows ", stop, done, have as u64) {
+            return;
+        }
+        if !stdio::send(b"forward: writing", STDOUT_FILENO, &reply(&row)) {
+            return;
+        }
+        done += 1;
+    }
 }

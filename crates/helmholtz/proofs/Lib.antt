@@ -2,4 +2,3 @@ pub mod Steps
 pub mod Numbers
 pub mod Tables
 pub mod Unique
-pub mod Pins

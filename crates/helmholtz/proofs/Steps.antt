@@ -5,7 +5,7 @@ use Rattle.common.specs.Decimal.{decimal, whole, scaled, plus}
 use Rattle.common.specs.Constant.{RGAS-WATER, TC-WATER, DC-WATER, TT}
 use Rattle.common.specs.Formula.{Raw}
 use Rattle.common.proofs.Formulas.{raw-value}
-use Rattle.helmholtz.specs.Table30.{n1}
+use Rattle.printed.specs.Table30.{n1}
 
 pub R : Raw (value RGAS-WATER) RGAS-WATER
 unfolding decimal scaled

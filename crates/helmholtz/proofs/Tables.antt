@@ -21,7 +21,7 @@ use Rattle.algo.proofs.Settled.{slope-settled, share-settled}
 use Rattle.common.specs.Formula.{Raw}
 use Rattle.helmholtz.specs.Number.{Number}
 use Rattle.helmholtz.proofs.Numbers.{settled-number}
-use Rattle.helmholtz.specs.Table30.{table30}
+use Rattle.printed.specs.Table30.{table30}
 use Rattle.helmholtz.specs.Hfe.{slope, share}
 
 module _ (t : Float → Float → Row → Outcome Float) (rs : List Row) where

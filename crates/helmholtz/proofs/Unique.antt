@@ -4,17 +4,12 @@ use Rattle.common.proofs.Same.{One}
 use Rattle.helmholtz.proofs.Numbers.{one-number}
 use Rattle.helmholtz.proofs.region3_hfe.finite_or_nan.Kinds as finite-or-nan-kinds
 use Rattle.helmholtz.proofs.region3_hfe.finite_or_nan.Reads as finite-or-nan
-use Rattle.helmholtz.proofs.region3_hfe.phi_reg3.Kinds as phi-reg3-kinds
+use Rattle.helmholtz.proofs.region3_hfe.phi_reg3.Kinds as number
 use Rattle.helmholtz.proofs.region3_hfe.phi_reg3.Reads as phi-reg3
-use Rattle.helmholtz.proofs.region3_hfe.phi_delta_reg3.Kinds as phi-delta-reg3-kinds
 use Rattle.helmholtz.proofs.region3_hfe.phi_delta_reg3.Reads as phi-delta-reg3
-use Rattle.helmholtz.proofs.region3_hfe.phi_deltadelta_reg3.Kinds as phi-deltadelta-reg3-kinds
 use Rattle.helmholtz.proofs.region3_hfe.phi_deltadelta_reg3.Reads as phi-deltadelta-reg3
-use Rattle.helmholtz.proofs.region3_hfe.phi_tau_reg3.Kinds as phi-tau-reg3-kinds
 use Rattle.helmholtz.proofs.region3_hfe.phi_tau_reg3.Reads as phi-tau-reg3
-use Rattle.helmholtz.proofs.region3_hfe.phi_tautau_reg3.Kinds as phi-tautau-reg3-kinds
 use Rattle.helmholtz.proofs.region3_hfe.phi_tautau_reg3.Reads as phi-tautau-reg3
-use Rattle.helmholtz.proofs.region3_hfe.phi_deltatau_reg3.Kinds as phi-deltatau-reg3-kinds
 use Rattle.helmholtz.proofs.region3_hfe.phi_deltatau_reg3.Reads as phi-deltatau-reg3
 use Rattle.helmholtz.proofs.region3_hfe.polys_0_j_powi_reg3.Kinds as polys-0-j-powi-reg3-kinds
 use Rattle.helmholtz.proofs.region3_hfe.polys_0_j_powi_reg3.Reads as polys-0-j-powi-reg3
@@ -26,22 +21,22 @@ use Rattle.helmholtz.proofs.region3_hfe.polys_i_ii_ij_jj_powi_reg3.Read
 pub finite-or-nan-one : One 0 finite-or-nan-kinds.ps finite-or-nan-kinds.r finite-or-nan.Post
 finite-or-nan-one κs a e x y p q = p ∙ sym q
 
-pub phi-reg3-one : One 0 phi-reg3-kinds.ps phi-reg3-kinds.r phi-reg3.Post
+pub phi-reg3-one : One 0 number.ps number.r phi-reg3.Post
 phi-reg3-one κs a e x y p q = one-number p q
 
-pub phi-delta-reg3-one : One 0 phi-delta-reg3-kinds.ps phi-delta-reg3-kinds.r phi-delta-reg3.Post
+pub phi-delta-reg3-one : One 0 number.ps number.r phi-delta-reg3.Post
 phi-delta-reg3-one κs a e x y p q = one-number p q
 
-pub phi-deltadelta-reg3-one : One 0 phi-deltadelta-reg3-kinds.ps phi-deltadelta-reg3-kinds.r phi-deltadelta-reg3.Post
+pub phi-deltadelta-reg3-one : One 0 number.ps number.r phi-deltadelta-reg3.Post
 phi-deltadelta-reg3-one κs a e x y p q = one-number p q
 
-pub phi-tau-reg3-one : One 0 phi-tau-reg3-kinds.ps phi-tau-reg3-kinds.r phi-tau-reg3.Post
+pub phi-tau-reg3-one : One 0 number.ps number.r phi-tau-reg3.Post
 phi-tau-reg3-one κs a e x y p q = one-number p q
 
-pub phi-tautau-reg3-one : One 0 phi-tautau-reg3-kinds.ps phi-tautau-reg3-kinds.r phi-tautau-reg3.Post
+pub phi-tautau-reg3-one : One 0 number.ps number.r phi-tautau-reg3.Post
 phi-tautau-reg3-one κs a e x y p q = one-number p q
 
-pub phi-deltatau-reg3-one : One 0 phi-deltatau-reg3-kinds.ps phi-deltatau-reg3-kinds.r phi-deltatau-reg3.Post
+pub phi-deltatau-reg3-one : One 0 number.ps number.r phi-deltatau-reg3.Post
 phi-deltatau-reg3-one κs a e x y p q = one-number p q
 
 pub polys-0-j-powi-reg3-one : One 0 polys-0-j-powi-reg3-kinds.ps polys-0-j-powi-reg3-kinds.r polys-0-j-powi-reg3.Post

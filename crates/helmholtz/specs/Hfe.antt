@@ -10,7 +10,7 @@ use Rattle.algo.specs.declared.Share.{Share}
 use Rattle.algo.specs.declared.Share.the-variants.{Whole, I, J, Ii, Ij, Jj}
 use Rattle.algo.specs.Table.{differentiated, sumRule}
 use Rattle.algo.specs.Joint.{shareRule}
-use Rattle.helmholtz.specs.Table30.{n1, table30}
+use Rattle.printed.specs.Table30.{n1, table30}
 
 -- of what δ and τ come to
 abbrev pub Reduced : Type 0

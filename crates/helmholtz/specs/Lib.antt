@@ -1,3 +1,2 @@
 pub mod Number
-pub mod Table30
 pub mod Hfe

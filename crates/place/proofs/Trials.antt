@@ -7,12 +7,12 @@ use mathlib.Core.Bool.{Bool, true, false, cond}
 use mathlib.Core.List.{List, [], _∷_}
 use lib.ListN.{length}
 use lib.Ieee.{Float}
-use Rattle.common.specs.Outcome.{Outcome, value, refused}
+use Rattle.common.specs.Outcome.{value, refused}
 use Rattle.secant.specs.Secant.{MAX-ITER, startOf, Next, ended, tried, turnOf, afterTurn, trialsFrom, lastOr, Proposal, proposalFrom, proposalRule}
 use Rattle.secant.specs.declared.Curve.{Curve}
 use Rattle.secant.specs.declared.Secant.{Secant}
-use Rattle.checks.proofs.Promise.{went-on, no-value}
-use Rattle.place.specs.Found.{Starts, startsOf, proposedFor, inRange, checkOn, acceptedAt, foundOn}
+use Rattle.common.proofs.Calls.{went-on, no-value}
+use Rattle.place.specs.AcceptedPlace.{Starts, startsOf, proposedFor, inRange, checkOn, acceptedAt, foundOn}
 
 -- the place and the count of a search, by its start points and its list of trials
 pub record Trials (curve : Curve) (y : Float) (q : Proposal) : Type 0 where
@@ -77,4 +77,4 @@ passed curve y x u e = by (inRange curve x) e
   where
     by : (b : Bool) → cond b (checkOn curve y x) (refused 4) ≡ value u → checkOn curve y x ≡ value u
     by true k = k
-    by false k = absurd (no-value 4 u k)
+    by false k = absurd (no-value k)

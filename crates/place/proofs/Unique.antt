@@ -3,7 +3,7 @@ use mathlib.Core.Path.{_≡_, refl, ap}
 use Rattle.common.specs.Outcome.{Outcome, value, refused}
 use Rattle.common.proofs.Same.{One, same, kindOf, kind-number}
 use Rattle.secant.specs.Secant.{Proposal}
-use Rattle.place.specs.Found.{paperFound}
+use Rattle.place.specs.AcceptedPlace.{paperFound}
 use Rattle.place.specs.declared.FoundAnswer.{FoundAnswer}
 use Rattle.place.specs.declared.FoundAnswer.the-variants as answers
 use Rattle.place.proofs.found.Kinds as found-kinds

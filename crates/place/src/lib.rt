@@ -25,7 +25,7 @@ use volume::pT2v_at;
 ghost use mathlib.Core.Path.{_≡_};
 ghost use Rattle.common.specs.Answer.{paper, paperVerdict};
 ghost use Rattle.secant.specs.Secant.{paperProposal};
-ghost use Rattle.place.specs.Found.{paperStarts, paperFound, densityAt, densitiesAt, startsOf, inRange, checkOn, acceptedAt, proposedFor, foundOn};
+ghost use Rattle.place.specs.AcceptedPlace.{paperStarts, paperFound, densityAt, densitiesAt, startsOf, inRange, checkOn, acceptedAt, proposedFor, foundOn};
 
 // Where a search starts.
 pub enum StartsAnswer {

@@ -10,7 +10,7 @@ use Rattle.common.specs.Constant.{SC-WATER}
 use Rattle.common.specs.Sum.{total, every}
 use Rattle.rules.specs.Power.{powerRule, byBits, lowest}
 use Rattle.algo.specs.Table.{sumRule}
-use Rattle.backward_tables.specs.Printed.{table-t3a-ph, table-t3b-ph, table-v3a-ph, table-v3b-ph, table-t3a-ps, table-t3b-ps, table-v3a-ps, table-v3b-ps, table-p3a-hs, table-p3b-hs}
+use Rattle.printed.specs.Backward.{table-t3a-ph, table-t3b-ph, table-v3a-ph, table-v3b-ph, table-t3a-ps, table-t3b-ps, table-v3a-ps, table-v3b-ps, table-p3a-hs, table-p3b-hs}
 use Rattle.common.proofs.Printed.{Value, prints, agrees}
 use Rattle.backward.specs.Equation.{worked, workedBy}
 use Rattle.backward.specs.Backward.{h3ab, side-ph, side-s, ph2T-reg3Rule, ph2v-reg3Rule, ps2T-reg3Rule, ps2v-reg3Rule, hs2p-reg3Rule}
@@ -37,18 +37,10 @@ values-agree = refl
 
 -- ---- the sides: 2095.936454 divides at 25 MPa, and the critical entropy belongs to 3a
 
-pub below-line : side-ph (whole 25) (whole 2095) ≡ value A
+pub sides :
+    (side-ph (whole 25) (whole 2095) ≡ value A)
+    × (side-ph (whole 25) (whole 2096) ≡ value B)
+    × (side-s SC-WATER ≡ A)
+    × (side-s (decimal 4_412021482234761 15) ≡ B)
 unfolding side-ph h3ab scaled decimal whole plus minus round neg add sub sum mul div ofInt le lt
-below-line = refl
-
-pub above-line : side-ph (whole 25) (whole 2096) ≡ value B
-unfolding side-ph h3ab scaled decimal whole plus minus round neg add sub sum mul div ofInt le lt
-above-line = refl
-
-pub at-critical : side-s SC-WATER ≡ A
-unfolding scaled decimal whole plus minus round neg add sub sum mul div ofInt le lt
-at-critical = refl
-
-pub above-critical : side-s (decimal 4_412021482234761 15) ≡ B
-unfolding scaled decimal whole plus minus round neg add sub sum mul div ofInt le lt
-above-critical = refl
+sides = (refl, refl, refl, refl)

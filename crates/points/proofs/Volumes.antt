@@ -3,7 +3,7 @@
 use mathlib.Core.Path.{_≡_, refl}
 use mathlib.Core.Bool.{true}
 use mathlib.Core.List.{List, [], _∷_}
-use lib.Ieee.{round, neg, add, sub, sum, mul, div, ofInt, le, lt}
+use lib.Ieee.{Float, round, neg, add, sub, sum, mul, div, ofInt, le, lt}
 use Rattle.common.specs.Decimal.{scaled, decimal, whole, plus, minus}
 use Rattle.common.specs.Sum.{total, every}
 use Rattle.rules.specs.Units.{inUnits}
@@ -12,10 +12,7 @@ use Rattle.rules.specs.Root.{rootRule, nearestRoot, wholeRoot}
 use Rattle.rules.specs.Log.{logarithmRule, lnOf, lnSteps, L}
 use Rattle.rules.specs.Exp.{exponentialRule, expSteps, nearestWhole}
 use Rattle.algo.specs.Table.{sumRule}
-use Rattle.tables_a_g.specs.Printed.{table3a, table3b, table3c, table3d, table3e, table3f, table3g}
-use Rattle.tables_h_m.specs.Printed.{table3h, table3i, table3j, table3k, table3l, table3m}
-use Rattle.tables_n_t.specs.Printed.{table3n, table3o, table3p, table3q, table3r, table3s, table3t}
-use Rattle.tables_u_z.specs.Printed.{table3u, table3v, table3w, table3x, table3y, table3z}
+use Rattle.printed.specs.Volumes.{table3a, table3b, table3c, table3d, table3e, table3f, table3g, table3h, table3i, table3j, table3k, table3l, table3m, table3n, table3o, table3p, table3q, table3r, table3s, table3t, table3u, table3v, table3w, table3x, table3y, table3z}
 use Rattle.subregion.specs.declared.Letter.{Letter}
 use Rattle.subregion.specs.declared.Letter.the-variants as letters
 use Rattle.common.proofs.Printed.{Value, prints, agrees}
@@ -57,44 +54,21 @@ pub values-agree : every agrees values ≡ true
 unfolding values every volumeAt volumeBy sumRule total table3a table3b table3c table3d table3e table3f table3g table3h table3i table3j table3k table3l table3m table3n table3o table3p table3q table3r table3s table3t table3u table3v table3w table3x table3y table3z powerRule byBits lowest rootRule nearestRoot wholeRoot inUnits logarithmRule lnOf lnSteps exponentialRule expSteps nearestWhole L scaled decimal whole plus minus round neg add sub sum mul div ofInt le lt
 values-agree = refl
 
--- ---- the saturation line: below a split, and at it
+-- ---- the saturation line: just below each split, and at it
 
-pub below-19-0088 : (saturatedLetter Liquid (decimal 19_00879999999 11) ≡ letters.C) × (saturatedLetter Steam (decimal 19_00879999999 11) ≡ letters.T)
-unfolding scaled decimal whole plus minus round neg add sub sum mul div ofInt le lt
-below-19-0088 = (refl, refl)
+abbrev Saturated : Float → Letter → Letter → Type 0
+Saturated p liquid steam = (saturatedLetter Liquid p ≡ liquid) × (saturatedLetter Steam p ≡ steam)
 
-pub at-19-0088 : (saturatedLetter Liquid (decimal 19_0088 4) ≡ letters.S) × (saturatedLetter Steam (decimal 19_0088 4) ≡ letters.T)
+pub splits :
+    Saturated (decimal 19_00879999999 11) letters.C letters.T
+    × Saturated (decimal 19_0088 4) letters.S letters.T
+    × Saturated (decimal 20_49999999999 11) letters.S letters.T
+    × Saturated (decimal 20_5 1) letters.S letters.R
+    × Saturated (decimal 21_04339999999 11) letters.S letters.R
+    × Saturated (decimal 21_0434 4) letters.U letters.X
+    × Saturated (decimal 21_90089999999 11) letters.U letters.X
+    × Saturated (decimal 21_9009 4) letters.U letters.Z
+    × Saturated (decimal 21_93159999999 11) letters.U letters.Z
+    × Saturated (decimal 21_9316 4) letters.Y letters.Z
 unfolding scaled decimal whole plus minus round neg add sub sum mul div ofInt le lt
-at-19-0088 = (refl, refl)
-
-pub below-20-5 : (saturatedLetter Liquid (decimal 20_49999999999 11) ≡ letters.S) × (saturatedLetter Steam (decimal 20_49999999999 11) ≡ letters.T)
-unfolding scaled decimal whole plus minus round neg add sub sum mul div ofInt le lt
-below-20-5 = (refl, refl)
-
-pub at-20-5 : (saturatedLetter Liquid (decimal 20_5 1) ≡ letters.S) × (saturatedLetter Steam (decimal 20_5 1) ≡ letters.R)
-unfolding scaled decimal whole plus minus round neg add sub sum mul div ofInt le lt
-at-20-5 = (refl, refl)
-
-pub below-21-0434 : (saturatedLetter Liquid (decimal 21_04339999999 11) ≡ letters.S) × (saturatedLetter Steam (decimal 21_04339999999 11) ≡ letters.R)
-unfolding scaled decimal whole plus minus round neg add sub sum mul div ofInt le lt
-below-21-0434 = (refl, refl)
-
-pub at-21-0434 : (saturatedLetter Liquid (decimal 21_0434 4) ≡ letters.U) × (saturatedLetter Steam (decimal 21_0434 4) ≡ letters.X)
-unfolding scaled decimal whole plus minus round neg add sub sum mul div ofInt le lt
-at-21-0434 = (refl, refl)
-
-pub below-21-9009 : (saturatedLetter Liquid (decimal 21_90089999999 11) ≡ letters.U) × (saturatedLetter Steam (decimal 21_90089999999 11) ≡ letters.X)
-unfolding scaled decimal whole plus minus round neg add sub sum mul div ofInt le lt
-below-21-9009 = (refl, refl)
-
-pub at-21-9009 : (saturatedLetter Liquid (decimal 21_9009 4) ≡ letters.U) × (saturatedLetter Steam (decimal 21_9009 4) ≡ letters.Z)
-unfolding scaled decimal whole plus minus round neg add sub sum mul div ofInt le lt
-at-21-9009 = (refl, refl)
-
-pub below-21-9316 : (saturatedLetter Liquid (decimal 21_93159999999 11) ≡ letters.U) × (saturatedLetter Steam (decimal 21_93159999999 11) ≡ letters.Z)
-unfolding scaled decimal whole plus minus round neg add sub sum mul div ofInt le lt
-below-21-9316 = (refl, refl)
-
-pub at-21-9316 : (saturatedLetter Liquid (decimal 21_9316 4) ≡ letters.Y) × (saturatedLetter Steam (decimal 21_9316 4) ≡ letters.Z)
-unfolding scaled decimal whole plus minus round neg add sub sum mul div ofInt le lt
-at-21-9316 = (refl, refl)
+splits = ((refl, refl), (refl, refl), (refl, refl), (refl, refl), (refl, refl), (refl, refl), (refl, refl), (refl, refl), (refl, refl), (refl, refl))

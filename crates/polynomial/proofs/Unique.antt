@@ -10,30 +10,7 @@ use Rattle.polynomial.specs.declared.PairAnswer.{PairAnswer}
 use Rattle.polynomial.specs.declared.PairAnswer.the-variants as pairs
 use Rattle.polynomial.specs.declared.FourAnswer.{FourAnswer}
 use Rattle.polynomial.specs.declared.FourAnswer.the-variants as fours
-use Rattle.polynomial.proofs.raw.raw_sum.Kinds as raw-sum-kinds
-use Rattle.polynomial.proofs.raw.raw_sum.Reads as raw-sum
-use Rattle.polynomial.proofs.polynomial.poly_powi.Kinds as poly-powi-kinds
-use Rattle.polynomial.proofs.polynomial.poly_powi.Reads as poly-powi
-use Rattle.polynomial.proofs.polynomial.poly_i_powi.Kinds as poly-i-powi-kinds
-use Rattle.polynomial.proofs.polynomial.poly_i_powi.Reads as poly-i-powi
-use Rattle.polynomial.proofs.polynomial.poly_ii_powi.Kinds as poly-ii-powi-kinds
-use Rattle.polynomial.proofs.polynomial.poly_ii_powi.Reads as poly-ii-powi
-use Rattle.polynomial.proofs.polynomial.poly_ij_powi.Kinds as poly-ij-powi-kinds
-use Rattle.polynomial.proofs.polynomial.poly_ij_powi.Reads as poly-ij-powi
-use Rattle.polynomial.proofs.polynomial.poly_j_powi.Kinds as poly-j-powi-kinds
-use Rattle.polynomial.proofs.polynomial.poly_j_powi.Reads as poly-j-powi
-use Rattle.polynomial.proofs.polynomial.poly_jj_powi.Kinds as poly-jj-powi-kinds
-use Rattle.polynomial.proofs.polynomial.poly_jj_powi.Reads as poly-jj-powi
-use Rattle.polynomial.proofs.polynomial.polys_0_j_powi.Kinds as polys-0-j-powi-kinds
-use Rattle.polynomial.proofs.polynomial.polys_0_j_powi.Reads as polys-0-j-powi
-use Rattle.polynomial.proofs.polynomial.polys_i_j_powi.Kinds as polys-i-j-powi-kinds
-use Rattle.polynomial.proofs.polynomial.polys_i_j_powi.Reads as polys-i-j-powi
-use Rattle.polynomial.proofs.polynomial.polys_i_ij_powi.Kinds as polys-i-ij-powi-kinds
-use Rattle.polynomial.proofs.polynomial.polys_i_ij_powi.Reads as polys-i-ij-powi
-use Rattle.polynomial.proofs.polynomial.polys_i_ii_powi.Kinds as polys-i-ii-powi-kinds
-use Rattle.polynomial.proofs.polynomial.polys_i_ii_powi.Reads as polys-i-ii-powi
-use Rattle.polynomial.proofs.polynomial.polys_i_ii_ij_jj_powi.Kinds as polys-i-ii-ij-jj-powi-kinds
-use Rattle.polynomial.proofs.polynomial.polys_i_ii_ij_jj_powi.Reads as polys-i-ii-ij-jj-powi
+use Rattle.polynomial.proofs as polynomial
 
 pairOf : Outcome Pair → PairAnswer
 pairOf (value p) = pairs.Value p
@@ -59,38 +36,38 @@ four-back (fours.Refused k) = ap fours.Refused (kind-number k)
 pub same-four : (o : Outcome Four) (r s : FourAnswer) → paperFour r ≡ o → paperFour s ≡ o → r ≡ s
 same-four = same paperFour fourOf four-back
 
-pub poly-powi-one : One 3 poly-powi-kinds.ps poly-powi-kinds.r poly-powi.Post
+pub poly-powi-one : One 3 polynomial.polynomial.poly_powi.Kinds.ps polynomial.polynomial.poly_powi.Kinds.r polynomial.polynomial.poly_powi.Reads.Post
 poly-powi-one κs a e x y p q = same-answer _ x y p q
 
-pub poly-i-powi-one : One 3 poly-i-powi-kinds.ps poly-i-powi-kinds.r poly-i-powi.Post
+pub poly-i-powi-one : One 3 polynomial.polynomial.poly_i_powi.Kinds.ps polynomial.polynomial.poly_i_powi.Kinds.r polynomial.polynomial.poly_i_powi.Reads.Post
 poly-i-powi-one κs a e x y p q = same-answer _ x y p q
 
-pub poly-ii-powi-one : One 3 poly-ii-powi-kinds.ps poly-ii-powi-kinds.r poly-ii-powi.Post
+pub poly-ii-powi-one : One 3 polynomial.polynomial.poly_ii_powi.Kinds.ps polynomial.polynomial.poly_ii_powi.Kinds.r polynomial.polynomial.poly_ii_powi.Reads.Post
 poly-ii-powi-one κs a e x y p q = same-answer _ x y p q
 
-pub poly-ij-powi-one : One 3 poly-ij-powi-kinds.ps poly-ij-powi-kinds.r poly-ij-powi.Post
+pub poly-ij-powi-one : One 3 polynomial.polynomial.poly_ij_powi.Kinds.ps polynomial.polynomial.poly_ij_powi.Kinds.r polynomial.polynomial.poly_ij_powi.Reads.Post
 poly-ij-powi-one κs a e x y p q = same-answer _ x y p q
 
-pub poly-j-powi-one : One 3 poly-j-powi-kinds.ps poly-j-powi-kinds.r poly-j-powi.Post
+pub poly-j-powi-one : One 3 polynomial.polynomial.poly_j_powi.Kinds.ps polynomial.polynomial.poly_j_powi.Kinds.r polynomial.polynomial.poly_j_powi.Reads.Post
 poly-j-powi-one κs a e x y p q = same-answer _ x y p q
 
-pub poly-jj-powi-one : One 3 poly-jj-powi-kinds.ps poly-jj-powi-kinds.r poly-jj-powi.Post
+pub poly-jj-powi-one : One 3 polynomial.polynomial.poly_jj_powi.Kinds.ps polynomial.polynomial.poly_jj_powi.Kinds.r polynomial.polynomial.poly_jj_powi.Reads.Post
 poly-jj-powi-one κs a e x y p q = same-answer _ x y p q
 
-pub polys-0-j-powi-one : One 3 polys-0-j-powi-kinds.ps polys-0-j-powi-kinds.r polys-0-j-powi.Post
+pub polys-0-j-powi-one : One 3 polynomial.polynomial.polys_0_j_powi.Kinds.ps polynomial.polynomial.polys_0_j_powi.Kinds.r polynomial.polynomial.polys_0_j_powi.Reads.Post
 polys-0-j-powi-one κs a e x y p q = same-pair _ x y p q
 
-pub polys-i-j-powi-one : One 3 polys-i-j-powi-kinds.ps polys-i-j-powi-kinds.r polys-i-j-powi.Post
+pub polys-i-j-powi-one : One 3 polynomial.polynomial.polys_i_j_powi.Kinds.ps polynomial.polynomial.polys_i_j_powi.Kinds.r polynomial.polynomial.polys_i_j_powi.Reads.Post
 polys-i-j-powi-one κs a e x y p q = same-pair _ x y p q
 
-pub polys-i-ij-powi-one : One 3 polys-i-ij-powi-kinds.ps polys-i-ij-powi-kinds.r polys-i-ij-powi.Post
+pub polys-i-ij-powi-one : One 3 polynomial.polynomial.polys_i_ij_powi.Kinds.ps polynomial.polynomial.polys_i_ij_powi.Kinds.r polynomial.polynomial.polys_i_ij_powi.Reads.Post
 polys-i-ij-powi-one κs a e x y p q = same-pair _ x y p q
 
-pub polys-i-ii-powi-one : One 3 polys-i-ii-powi-kinds.ps polys-i-ii-powi-kinds.r polys-i-ii-powi.Post
+pub polys-i-ii-powi-one : One 3 polynomial.polynomial.polys_i_ii_powi.Kinds.ps polynomial.polynomial.polys_i_ii_powi.Kinds.r polynomial.polynomial.polys_i_ii_powi.Reads.Post
 polys-i-ii-powi-one κs a e x y p q = same-pair _ x y p q
 
-pub polys-i-ii-ij-jj-powi-one : One 3 polys-i-ii-ij-jj-powi-kinds.ps polys-i-ii-ij-jj-powi-kinds.r polys-i-ii-ij-jj-powi.Post
+pub polys-i-ii-ij-jj-powi-one : One 3 polynomial.polynomial.polys_i_ii_ij_jj_powi.Kinds.ps polynomial.polynomial.polys_i_ii_ij_jj_powi.Kinds.r polynomial.polynomial.polys_i_ii_ij_jj_powi.Reads.Post
 polys-i-ii-ij-jj-powi-one κs a e x y p q = same-four _ x y p q
 
-pub raw-sum-one : One 3 raw-sum-kinds.ps raw-sum-kinds.r raw-sum.Post
+pub raw-sum-one : One 3 polynomial.raw.raw_sum.Kinds.ps polynomial.raw.raw_sum.Kinds.r polynomial.raw.raw_sum.Reads.Post
 raw-sum-one κs a e x y p q = p ∙ sym q

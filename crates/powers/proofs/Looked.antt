@@ -13,8 +13,8 @@ use borrow.Author.Tests.{le-ltb, le-leb, lt-leb, ltb-true, ltb-false, leb-true}
 use Rattle.common.specs.Outcome.{finite, check, inside}
 use Rattle.common.proofs.Laws.{inside-check, raw-inside}
 use Rattle.rules.specs.Power.{powerRule}
-use Rattle.rules.specs.RawPower.{rawPower, keptPower}
-use Rattle.rules.proofs.Powers.{power-kept}
+use Rattle.rules.specs.RawPower.{rawPower, lookedPower}
+use Rattle.rules.proofs.Powers.{power-looked}
 use Rattle.rules.proofs.Usual.{power-usual}
 use Rattle.sizes.specs.Usual.{usualBase}
 use Rattle.powers.specs.Powers.{WrittenBy, BarePowers, Powers, ruled, capped, highest, lookedUp, placeOf}
@@ -52,15 +52,8 @@ too-high (negsuc a) h = absurd (subst T (sym h) tt)
 
 -- ---- what is looked up
 
--- a place is among those that are written
-within-low : (k d : ℕ) → k < d → suc k ≤ 64 → 64 - capped d ≤ 63 - k
-within-low k d l m = omega arith
-
 within-high : (k h : ℕ) → 63 - k < 72 + (h - 7)
 within-high k h = omega arith
-
-within-up : (k u d : ℕ) → k ≤ u → k ≤ 64 → k ≤ d + (capped u - d)
-within-up k u d l m = omega arith
 
 within-top : (k h : ℕ) → k ≤ h → 64 + k < 72 + (h - 7)
 within-top k h l = omega arith
@@ -70,11 +63,11 @@ looked : (f : ℤ → Float) (b w : List Float) (u d : ℕ) → WrittenBy f b w 
 looked f b w u d p (pos k) s t =
     let l : k ≤ 64 = leb-true k 64 s in
     let m : k ≤ u = leb→le k u t in
-    rw s (p .held .at (64 + k) (omega arith) (within-top k (highest u d) (within-up k u (capped d) m l)) ∙ ap f (at-up k))
+    rw s (p .held .at (64 + k) (omega arith) (within-top k (highest u d) (omega arith)) ∙ ap f (at-up k))
 looked f b w u d p (negsuc k) s t =
     let l : suc k ≤ 64 = leb-true (suc k) 64 s in
     let m : k < d = ltb→lt k d t in
-    rw s (p .held .at (63 - k) (within-low k d m l) (within-high k (highest u d)) ∙ ap f (at-down k (omega arith)))
+    rw s (p .held .at (63 - k) (omega arith) (within-high k (highest u d)) ∙ ap f (at-down k (omega arith)))
 
 -- w has the powers of a from -d to u, each as the written rule has it
 abbrev pub Holds : Float → List Float → ℕ → ℕ → Type 0
@@ -92,7 +85,7 @@ holds a f b w u d p e n g t = by (leb (natAbs n) 64) refl
 
 pub powers-hold : (a : Float) (b w : List Float) (u d : ℕ) → length b ≡ 129 → Powers a b w u d → Holds a w u d
 powers-hold a b w u d l p =
-    holds a (ruled a) b w u d (p .stand l) (λ n f s. sym (raw-inside (powerRule a n) (keptPower a n) (power-kept a n f s)))
+    holds a (ruled a) b w u d (p .stand l) (λ n f s. sym (raw-inside (powerRule a n) (lookedPower a n) (power-looked a n f s)))
 
 -- at a usual base no power needs a look
 pub bare-hold : (a : Float) (b w : List Float) (u d : ℕ) → usualBase a ≡ true → length b ≡ 129 → BarePowers a b w u d → Holds a w u d

@@ -2,13 +2,13 @@
 use mathlib.Core.Path.{_≡_, sym, _∙_}
 use mathlib.Core.Bool.{true}
 use mathlib.Core.List.{List}
-use Prim.Native.Nat.{ℕ, _<_, _≤_}
+use Prim.Native.Nat.{ℕ, _≤_}
 use native.Mathlib.Omega.{arith}
 use lib.Ieee.{Float}
 use Rattle.sizes.specs.Usual.{usualBase}
 use Rattle.rules.proofs.Usual.{usual-raw}
 use Rattle.powers.proofs.Exponents.{taken}
-use Rattle.powers.specs.Powers.{exponentAt, Has, Written, WrittenBy, ruled}
+use Rattle.powers.specs.Powers.{exponentAt, Written, WrittenBy, ruled}
 
 pub usual-written : (a : Float) (b w : List Float) (lo hi : ℕ) → hi ≤ 129 → usualBase a ≡ true → Written a b w lo hi → WrittenBy (ruled a) b w lo hi
 usual-written a b w lo hi h u p = record {

@@ -1,12 +1,10 @@
 -- That the halves are apart is not empty: four sums at which w's own steps are lost and cp's are not, and four at which it is the other way round. Worked
 -- out by antt at δ = 1, τ = 1, T = 650 K. In the box no such state is known.
 use mathlib.Core.Path.{_≡_, refl}
-use mathlib.Core.Bool.{true}
 use Prim.Native.Nat.{ℕ}
 use lib.Ieee.{round, neg, add, sub, sum, mul, div, ofInt, le}
-use Rattle.common.specs.Outcome.{Outcome, value, numberIn}
+use Rattle.common.specs.Outcome.{value, numberIn}
 use Rattle.common.specs.Decimal.{scaled, decimal, whole}
-use Rattle.common.specs.Constant.{RGAS-WATER}
 use Rattle.rules.specs.Root.{rootRule, nearestRoot, wholeRoot}
 use Rattle.properties.specs.Td.{Sums}
 use Rattle.properties.specs.Together.{CpAndW, bothOver}

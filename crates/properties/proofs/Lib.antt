@@ -1,4 +1,3 @@
-pub mod Published
 pub mod Together
 pub mod Apart
 mod Worked

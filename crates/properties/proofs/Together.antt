@@ -3,7 +3,7 @@
 use mathlib.Core.Path.{_≡_, refl, sym, subst, _∙_}
 use Prim.Native.Nat.{ℕ}
 use lib.Ieee.{Float, binary64, add, sub, mul, div}
-use Rattle.common.specs.Outcome.{Outcome, value, refused, check, then, inside, orNan}
+use Rattle.common.specs.Outcome.{Outcome, value, refused, check, inside, orNan}
 use Rattle.common.specs.Decimal.{whole}
 use Rattle.common.specs.Constant.{RGAS-WATER, TC-WATER, DC-WATER}
 use Rattle.common.specs.Formula.{worked, _⊕_, _⊖_, _⊗_, _⊘_, minusOf}
@@ -16,7 +16,7 @@ use Rattle.algo.specs.declared.Share.the-variants.{I, Ii, Ij, Jj}
 use Rattle.algo.specs.Joint.{shareRule}
 use Rattle.algo.proofs.Settled.{share-settled}
 use Rattle.helmholtz.specs.Number.{Number}
-use Rattle.helmholtz.specs.Table30.{n1, table30}
+use Rattle.printed.specs.Table30.{n1, table30}
 use Rattle.helmholtz.specs.Hfe.{share, four-delta, four-deltadelta}
 use Rattle.properties.specs.Td.{R, Sums, sums, cpOver, wOver, reducedDensity, inverseTemperature, Td2cp, Td2w}
 use Rattle.properties.specs.Together.{bothOver, Td2cp-w}

@@ -1,7 +1,11 @@
 -- Each contract admits one answer. The theorems are about the contracts' own readings, `Reads.Post`.
-use mathlib.Core.Path.{sym, ap, _∙_}
+use mathlib.Core.Path.{_≡_, refl, sym, ap, _∙_}
 use lib.Ieee.{Float}
+use borrow.Fn.Kinds.{Out}
+use Rattle.common.specs.Outcome.{check}
 use Rattle.common.proofs.Same.{One, same-answer}
+use Rattle.helmholtz.specs.Number.{Number}
+use Rattle.properties.specs.Td.{Formula, Td2v, Td2p, Td2u, Td2s, Td2h, Td2cv}
 use Rattle.helmholtz.proofs.Numbers.{one-number}
 use Rattle.properties.proofs.lost.lost_or.Kinds as lost-or-kinds
 use Rattle.properties.proofs.lost.lost_or.Reads as lost-or
@@ -9,19 +13,14 @@ use Rattle.properties.proofs.region3_Td.tau_of.Kinds as tau-of-kinds
 use Rattle.properties.proofs.region3_Td.tau_of.Reads as tau-of
 use Rattle.properties.proofs.region3_Td.delta_of.Kinds as delta-of-kinds
 use Rattle.properties.proofs.region3_Td.delta_of.Reads as delta-of
-use Rattle.properties.proofs.region3_Td.raw_v.Kinds as raw-v-kinds
+use Rattle.properties.proofs.region3_Td.raw_v.Kinds as raws
 use Rattle.properties.proofs.region3_Td.raw_v.Reads as raw-v
-use Rattle.properties.proofs.region3_Td.raw_p.Kinds as raw-p-kinds
 use Rattle.properties.proofs.region3_Td.raw_p.Reads as raw-p
-use Rattle.properties.proofs.region3_Td.raw_u.Kinds as raw-u-kinds
 use Rattle.properties.proofs.region3_Td.raw_u.Reads as raw-u
-use Rattle.properties.proofs.region3_Td.raw_s.Kinds as raw-s-kinds
 use Rattle.properties.proofs.region3_Td.raw_s.Reads as raw-s
-use Rattle.properties.proofs.region3_Td.raw_h.Kinds as raw-h-kinds
 use Rattle.properties.proofs.region3_Td.raw_h.Reads as raw-h
 use Rattle.properties.proofs.region3_Td.raw_cp_w.Kinds as raw-cp-w-kinds
 use Rattle.properties.proofs.region3_Td.raw_cp_w.Reads as raw-cp-w
-use Rattle.properties.proofs.region3_Td.raw_cv.Kinds as raw-cv-kinds
 use Rattle.properties.proofs.region3_Td.raw_cv.Reads as raw-cv
 use Rattle.properties.proofs.region3_Td.state_p.Kinds as state-p-kinds
 use Rattle.properties.proofs.region3_Td.state_p.Reads as state-p
@@ -35,23 +34,17 @@ tau-of-one κs a e x y p q = one-number p q
 pub delta-of-one : One 0 delta-of-kinds.ps delta-of-kinds.r delta-of.Post
 delta-of-one κs a e x y p q = one-number p q
 
-pub raw-v-one : One 0 raw-v-kinds.ps raw-v-kinds.r raw-v.Post
-raw-v-one κs a e x y p q = one-number p q
+-- each of table 31 is the number of its formula, and of such a contract any two results coincide
+abbrev number-of : Formula → Out 0 raws.ps raws.r
+number-of f κs a x e = Number (f (check (a .0 .0)) (check (a .1 .0 .0))) x
 
-pub raw-p-one : One 0 raw-p-kinds.ps raw-p-kinds.r raw-p.Post
-raw-p-one κs a e x y p q = one-number p q
+pub number-one : (f : Formula) → One 0 raws.ps raws.r (number-of f)
+number-one f κs a e x y p q = one-number p q
 
-pub raw-u-one : One 0 raw-u-kinds.ps raw-u-kinds.r raw-u.Post
-raw-u-one κs a e x y p q = one-number p q
-
-pub raw-s-one : One 0 raw-s-kinds.ps raw-s-kinds.r raw-s.Post
-raw-s-one κs a e x y p q = one-number p q
-
-pub raw-h-one : One 0 raw-h-kinds.ps raw-h-kinds.r raw-h.Post
-raw-h-one κs a e x y p q = one-number p q
-
-pub raw-cv-one : One 0 raw-cv-kinds.ps raw-cv-kinds.r raw-cv.Post
-raw-cv-one κs a e x y p q = one-number p q
+pub numbers :
+    (raw-v.Post ≡ number-of Td2v) × (raw-p.Post ≡ number-of Td2p) × (raw-u.Post ≡ number-of Td2u) × (raw-s.Post ≡ number-of Td2s)
+    × (raw-h.Post ≡ number-of Td2h) × (raw-cv.Post ≡ number-of Td2cv)
+numbers = (refl, refl, refl, refl, refl, refl)
 
 -- half by half
 pub raw-cp-w-one : One 0 raw-cp-w-kinds.ps raw-cp-w-kinds.r raw-cp-w.Post

@@ -1,9 +1,9 @@
 -- The raw saturation temperature, checked once, is equation 31: no step of it is refused with another number than 5, and its last is checked. Assumes nothing.
 use mathlib.Core.Path.{_≡_, ap, _∙_}
 use lib.Ieee.{Float}
-use Rattle.common.specs.Outcome.{Outcome, value, check, orNan}
-use Rattle.common.specs.Decimal.{decimal, whole, plus, minus}
-use Rattle.common.proofs.Formulas.{Five, five, five-add, five-sub, five-mul, five-div, five-minus, settled-mul}
+use Rattle.common.specs.Outcome.{check, orNan}
+use Rattle.common.specs.Decimal.{decimal, whole}
+use Rattle.common.proofs.Formulas.{five, five-add, five-sub, five-mul, five-div, five-minus, settled-mul}
 use Rattle.rules.proofs.Formulas.{five-rootOf}
 use Rattle.r4.specs.Saturation.{T-saturation, n1, n2, n3, n4, n5, n6, n7, n8, n9, n10}
 

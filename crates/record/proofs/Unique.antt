@@ -6,22 +6,7 @@ use Rattle.common.proofs.Same.{One, same-answer, same-verdict}
 use Rattle.record.specs.declared.Record.{Record}
 use Rattle.record.specs.declared.RecordAnswer.{RecordAnswer}
 use Rattle.record.specs.Record.{paperRecord}
-use Rattle.record.proofs.records.refuse.Kinds as refuse-kinds
-use Rattle.record.proofs.records.refuse.Reads as refuse
-use Rattle.record.proofs.records.blank.Kinds as blank-kinds
-use Rattle.record.proofs.records.blank.Reads as blank
-use Rattle.record.proofs.records.fields.Kinds as fields-kinds
-use Rattle.record.proofs.records.fields.Reads as fields
-use Rattle.record.proofs.records.origin_byte.Kinds as origin-byte-kinds
-use Rattle.record.proofs.records.origin_byte.Reads as origin-byte
-use Rattle.record.proofs.state.settle_p.Kinds as settle-p-kinds
-use Rattle.record.proofs.state.settle_p.Reads as settle-p
-use Rattle.record.proofs.state.settle_t.Kinds as settle-t-kinds
-use Rattle.record.proofs.state.settle_t.Reads as settle-t
-use Rattle.record.proofs.state.density.Kinds as density-kinds
-use Rattle.record.proofs.state.density.Reads as density
-use Rattle.record.proofs.state.settle_v.Kinds as settle-v-kinds
-use Rattle.record.proofs.state.settle_v.Reads as settle-v
+use Rattle.record.proofs as its
 
 -- an answer is determined by its verdict's number and its record
 pub same-record : (o : Outcome Unit × Record) (x y : RecordAnswer) → paperRecord x ≡ o → paperRecord y ≡ o → x ≡ y
@@ -31,26 +16,26 @@ same-record o x y p q =
     ap (λ (v : Verdict). record { verdict = v; «record» = x .«record» }) v
     ∙ ap (λ (a : Outcome Unit × Record). record { verdict = y .verdict; «record» = a .1 }) e
 
-pub refuse-one : One 0 refuse-kinds.ps refuse-kinds.r refuse.Post
+pub refuse-one : One 0 its.records.refuse.Kinds.ps its.records.refuse.Kinds.r its.records.refuse.Reads.Post
 refuse-one κs a e x y p q = same-record _ x y p q
 
-pub blank-one : One 0 blank-kinds.ps blank-kinds.r blank.Post
+pub blank-one : One 0 its.records.blank.Kinds.ps its.records.blank.Kinds.r its.records.blank.Reads.Post
 blank-one κs a e x y p q = p ∙ sym q
 
-pub fields-one : One 0 fields-kinds.ps fields-kinds.r fields.Post
+pub fields-one : One 0 its.records.fields.Kinds.ps its.records.fields.Kinds.r its.records.fields.Reads.Post
 fields-one κs a e x y p q = p ∙ sym q
 
-pub origin-byte-one : One 0 origin-byte-kinds.ps origin-byte-kinds.r origin-byte.Post
+pub origin-byte-one : One 0 its.records.origin_byte.Kinds.ps its.records.origin_byte.Kinds.r its.records.origin_byte.Reads.Post
 origin-byte-one κs a e x y p q = p ∙ sym q
 
-pub settle-p-one : One 0 settle-p-kinds.ps settle-p-kinds.r settle-p.Post
+pub settle-p-one : One 0 its.state.settle_p.Kinds.ps its.state.settle_p.Kinds.r its.state.settle_p.Reads.Post
 settle-p-one κs a e x y p q = same-answer _ x y p q
 
-pub settle-t-one : One 0 settle-t-kinds.ps settle-t-kinds.r settle-t.Post
+pub settle-t-one : One 0 its.state.settle_t.Kinds.ps its.state.settle_t.Kinds.r its.state.settle_t.Reads.Post
 settle-t-one κs a e x y p q = same-answer _ x y p q
 
-pub density-one : One 0 density-kinds.ps density-kinds.r density.Post
+pub density-one : One 0 its.state.density.Kinds.ps its.state.density.Kinds.r its.state.density.Reads.Post
 density-one κs a e x y p q = same-answer _ x y p q
 
-pub settle-v-one : One 0 settle-v-kinds.ps settle-v-kinds.r settle-v.Post
+pub settle-v-one : One 0 its.state.settle_v.Kinds.ps its.state.settle_v.Kinds.r its.state.settle_v.Reads.Post
 settle-v-one κs a e x y p q = same-answer _ x y p q

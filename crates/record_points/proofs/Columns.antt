@@ -5,7 +5,7 @@ use mathlib.Core.Path.{_≡_, refl}
 use mathlib.Core.Bool.{Bool, true, false, _&&_}
 use mathlib.Core.List.{List, [], _∷_}
 use Prim.Native.Nat.{ℕ}
-use lib.Dec.{eqb}
+use lib.Dec.{eqb, T}
 use lib.Ieee.{Float, round, neg, add, sub, sum, mul, div, ofInt, le, lt}
 use Rattle.common.specs.Decimal.{scaled, decimal, whole, plus, minus}
 use Rattle.common.specs.Outcome.{value, refused, zeroF}
@@ -16,13 +16,10 @@ use Rattle.rules.specs.Root.{rootRule, nearestRoot, wholeRoot}
 use Rattle.rules.specs.Log.{logarithmRule, lnOf, lnSteps, L}
 use Rattle.rules.specs.Exp.{exponentialRule, expSteps, nearestWhole}
 use Rattle.algo.specs.Table.{sumRule}
-use Rattle.tables_a_g.specs.Printed.{table3a, table3b, table3c, table3d, table3e, table3f, table3g}
-use Rattle.tables_h_m.specs.Printed.{table3h, table3i, table3j, table3k, table3l, table3m}
-use Rattle.tables_n_t.specs.Printed.{table3n, table3o, table3p, table3q, table3r, table3s, table3t}
-use Rattle.tables_u_z.specs.Printed.{table3u, table3v, table3w, table3x, table3y, table3z}
+use Rattle.printed.specs.Volumes.{table3a, table3b, table3c, table3d, table3e, table3f, table3g, table3h, table3i, table3j, table3k, table3l, table3m, table3n, table3o, table3p, table3q, table3r, table3s, table3t, table3u, table3v, table3w, table3x, table3y, table3z}
 use Rattle.r4.specs.Saturation.{p-saturation, T-saturation}
 use Rattle.border.specs.Border.{B23-p2T, besideBorder, region3Box}
-use Rattle.boundary.specs.Boundary.{walkRule, rowAt, table, straight3ef}
+use Rattle.boundaries.specs.Boundary.{walkRule, rowAt, table, straight3ef}
 use Rattle.boundary.specs.Choice.{letterAt, abRule, cdefRule, chijkRule, clmnopjkRule, nearRule, cq-rkRule, csrkRule, cstRule, ctRule, limit}
 use Rattle.volume.specs.Equation.{volumeAt, volumeBy}
 use Rattle.volume.specs.Volumes.{originAt, originRule, stateBy, foundRule}
@@ -50,17 +47,17 @@ every-number [] (y ∷ ys) = false
 every-number (x ∷ xs) [] = false
 every-number (x ∷ xs) (y ∷ ys) = same x y && every-number xs ys
 
-pub letters : every-byte (filled ps ts .letters) (103 ∷ 0 ∷ 0 ∷ 97 ∷ 0 ∷ []) ≡ true
+pub letters : T (every-byte (filled ps ts .letters) (103 ∷ 0 ∷ 0 ∷ 97 ∷ 0 ∷ []))
 unfolding every-byte ps ts rowsBy rowRule foundRule originRule region3Box besideBorder B23-p2T originAt stateBy volumeAt volumeBy letterAt abRule cdefRule chijkRule clmnopjkRule nearRule cq-rkRule csrkRule cstRule ctRule limit walkRule rowAt table straight3ef p-saturation T-saturation sumRule total table3a table3b table3c table3d table3e table3f table3g table3h table3i table3j table3k table3l table3m table3n table3o table3p table3q table3r table3s table3t table3u table3v table3w table3x table3y table3z powerRule byBits lowest rootRule nearestRoot wholeRoot inUnits logarithmRule lnOf lnSteps exponentialRule expSteps nearestWhole L scaled decimal whole plus minus round neg add sub sum mul div ofInt le lt
-letters = refl
+letters = tt
 
-pub densities : every-number (filled ps ts .densities) ((decimal 461_6711044147961 13) ∷ (whole 322) ∷ zeroF ∷ (decimal 679_8775485632074 13) ∷ zeroF ∷ []) ≡ true
+pub densities : T (every-number (filled ps ts .densities) ((decimal 461_6711044147961 13) ∷ (whole 322) ∷ zeroF ∷ (decimal 679_8775485632074 13) ∷ zeroF ∷ []))
 unfolding every-number ps ts rowsBy rowRule foundRule originRule region3Box besideBorder B23-p2T originAt stateBy volumeAt volumeBy letterAt abRule cdefRule chijkRule clmnopjkRule nearRule cq-rkRule csrkRule cstRule ctRule limit walkRule rowAt table straight3ef p-saturation T-saturation sumRule total table3a table3b table3c table3d table3e table3f table3g table3h table3i table3j table3k table3l table3m table3n table3o table3p table3q table3r table3s table3t table3u table3v table3w table3x table3y table3z powerRule byBits lowest rootRule nearestRoot wholeRoot inUnits logarithmRule lnOf lnSteps exponentialRule expSteps nearestWhole L scaled decimal whole plus minus round neg add sub sum mul div ofInt le lt
-densities = refl
+densities = tt
 
-pub refusals : every-byte (filled ps ts .refusals) (0 ∷ 0 ∷ 3 ∷ 0 ∷ 8 ∷ []) ≡ true
+pub refusals : T (every-byte (filled ps ts .refusals) (0 ∷ 0 ∷ 3 ∷ 0 ∷ 8 ∷ []))
 unfolding every-byte ps ts rowsBy rowRule foundRule originRule region3Box besideBorder B23-p2T originAt stateBy volumeAt volumeBy letterAt abRule cdefRule chijkRule clmnopjkRule nearRule cq-rkRule csrkRule cstRule ctRule limit walkRule rowAt table straight3ef p-saturation T-saturation sumRule total table3a table3b table3c table3d table3e table3f table3g table3h table3i table3j table3k table3l table3m table3n table3o table3p table3q table3r table3s table3t table3u table3v table3w table3x table3y table3z powerRule byBits lowest rootRule nearestRoot wholeRoot inUnits logarithmRule lnOf lnSteps exponentialRule expSteps nearestWhole L scaled decimal whole plus minus round neg add sub sum mul div ofInt le lt
-refusals = refl
+refusals = tt
 
 pub accepted : columnsRule ps ts (lent (9 ∷ 9 ∷ 9 ∷ 9 ∷ 9 ∷ []) ps (9 ∷ 9 ∷ 9 ∷ 9 ∷ 9 ∷ [])) ≡ (value tt, filled ps ts)
 unfolding ps ts columnsRule

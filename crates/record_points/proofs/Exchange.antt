@@ -1,9 +1,9 @@
 -- The exchange record of docs/SCOPE.md answered: its two records of (24, 650), one with fields to skip, and its NaN, from the bytes to the entry's own numbers,
 -- in one statement. Worked out by antt. Assumes nothing.
 use mathlib.Core.Path.{_≡_, refl}
-use mathlib.Core.Bool.{true}
 use mathlib.Core.List.{List, [], _∷_, _++_}
 use Prim.Native.Nat.{ℕ}
+use lib.Dec.{T}
 use lib.ListN.{replicate}
 use lib.Ieee.{Float, binary64, ofBits}
 use lib.Ieee.{round, neg, add, sub, sum, mul, div, ofInt, le, lt}
@@ -16,17 +16,14 @@ use Rattle.rules.specs.Log.{logarithmRule, lnOf, lnSteps, L}
 use Rattle.rules.specs.Exp.{exponentialRule, expSteps, nearestWhole}
 use Rattle.algo.specs.Table.{sumRule}
 use Rattle.algo.specs.Joint.{shareRule}
-use Rattle.tables_a_g.specs.Printed.{table3a, table3b, table3c, table3d, table3e, table3f, table3g}
-use Rattle.tables_h_m.specs.Printed.{table3h, table3i, table3j, table3k, table3l, table3m}
-use Rattle.tables_n_t.specs.Printed.{table3n, table3o, table3p, table3q, table3r, table3s, table3t}
-use Rattle.tables_u_z.specs.Printed.{table3u, table3v, table3w, table3x, table3y, table3z}
+use Rattle.printed.specs.Volumes.{table3a, table3b, table3c, table3d, table3e, table3f, table3g, table3h, table3i, table3j, table3k, table3l, table3m, table3n, table3o, table3p, table3q, table3r, table3s, table3t, table3u, table3v, table3w, table3x, table3y, table3z}
 use Rattle.r4.specs.Saturation.{p-saturation, T-saturation}
 use Rattle.border.specs.Border.{B23-p2T, besideBorder, region3Box}
-use Rattle.boundary.specs.Boundary.{walkRule, rowAt, table, straight3ef}
+use Rattle.boundaries.specs.Boundary.{walkRule, rowAt, table, straight3ef}
 use Rattle.boundary.specs.Choice.{letterAt, abRule, cdefRule, chijkRule, clmnopjkRule, nearRule, cq-rkRule, csrkRule, cstRule, ctRule, limit}
 use Rattle.volume.specs.Equation.{volumeAt, volumeBy}
 use Rattle.volume.specs.Volumes.{originAt, originRule, stateBy, foundRule}
-use Rattle.helmholtz.specs.Table30.{table30}
+use Rattle.printed.specs.Table30.{table30}
 use Rattle.helmholtz.specs.Hfe.{slope, phi, phi-delta, phi-deltadelta, share, joint-phi, joint-delta, four-delta, four-deltadelta}
 use Rattle.properties.specs.Td.{Td2v, Td2p, Td2h, Td2s, Td2u, Td2cv, Td2cp, Td2w, statePressure}
 use Rattle.td_record.specs.Steps.{recordSteps, recordAfter}
@@ -40,7 +37,9 @@ use Rattle.exchange_record.specs.declared.Asked.{Asked}
 use Rattle.exchange_record.specs.Reading.{Means}
 use Rattle.exchange_record.proofs.Points as read
 use Rattle.exchange_entry.specs.Call.{exchangeOf, Exchanged}
-use Rattle.record_points.proofs.Columns.{same}
+use Rattle.common.proofs.Sums.{both-left, both-right}
+use Rattle.record_points.proofs.Columns.{same, every-number}
+use Rattle.record_points.proofs.Records.{isRecord, pT-accepted}
 
 -- what some bytes are answered with: the pair, the number, the density
 pub record Answered (s : List ℕ) (pair : Outcome Pair) (number : ℕ) (d : Float) : Type 0 where
@@ -48,29 +47,25 @@ pub record Answered (s : List ℕ) (pair : Outcome Pair) (number : ℕ) (d : Flo
   pub exchanged : Exchanged s answer
   pub pair-is : answer .0 ≡ pair
   pub number-is : numberIn (answer .1 .0) ≡ number
-  pub density-is : same (answer .1 .1 .d) d ≡ true
+  pub density-is : T (same (answer .1 .1 .d) d)
 
-state : Outcome Unit × Record
-state = report (pTRule (ofBits binary64 0x4038_0000_0000_0000) (ofBits binary64 0x4084_5000_0000_0000))
-
-accepted : numberIn (state .0) ≡ 0
-unfolding state pTRule recordSteps recordAfter Td2v Td2p Td2h Td2s Td2u Td2cv Td2cp Td2w statePressure slope phi phi-delta phi-deltadelta share joint-phi joint-delta four-delta four-deltadelta shareRule table30 sumRule total foundRule originRule region3Box besideBorder B23-p2T originAt stateBy volumeAt volumeBy letterAt abRule cdefRule chijkRule clmnopjkRule nearRule cq-rkRule csrkRule cstRule ctRule limit walkRule rowAt table straight3ef p-saturation T-saturation table3a table3b table3c table3d table3e table3f table3g table3h table3i table3j table3k table3l table3m table3n table3o table3p table3q table3r table3s table3t table3u table3v table3w table3x table3y table3z powerRule byBits lowest rootRule nearestRoot wholeRoot inUnits logarithmRule lnOf lnSteps exponentialRule expSteps nearestWhole L scaled decimal whole plus minus round neg add sub sum mul div ofInt le lt ofBits
-accepted = refl
-
-density : same (state .1 .d) (decimal 461_6711044147961 13) ≡ true
-unfolding state pTRule recordSteps recordAfter Td2v Td2p Td2h Td2s Td2u Td2cv Td2cp Td2w statePressure slope phi phi-delta phi-deltadelta share joint-phi joint-delta four-delta four-deltadelta shareRule table30 sumRule total foundRule originRule region3Box besideBorder B23-p2T originAt stateBy volumeAt volumeBy letterAt abRule cdefRule chijkRule clmnopjkRule nearRule cq-rkRule csrkRule cstRule ctRule limit walkRule rowAt table straight3ef p-saturation T-saturation table3a table3b table3c table3d table3e table3f table3g table3h table3i table3j table3k table3l table3m table3n table3o table3p table3q table3r table3s table3t table3u table3v table3w table3x table3y table3z powerRule byBits lowest rootRule nearestRoot wholeRoot inUnits logarithmRule lnOf lnSteps exponentialRule expSteps nearestWhole L scaled decimal whole plus minus round neg add sub sum mul div ofInt le lt ofBits
-density = refl
+-- the number and the density of an accepted record
+told : (t d : Float) (xs : List Float) (o : Outcome Record) → T (isRecord (t ∷ d ∷ xs) o) → (numberIn (report o .0) ≡ 0) × T (same (report o .1 .d) d)
+unfolding every-number
+told t d xs (value r) h = (refl, both-left (same (r .d) d) _ (both-right (same (r .T) t) _ h))
+told t d xs (refused k) h = absurd h
 
 at-24-650 : (s : List ℕ) → Means s (value (record { pair = PT; a = 0x4038_0000_0000_0000; b = 0x4084_5000_0000_0000 }))
     → Answered s (value PT) 0 (decimal 461_6711044147961 13)
-unfolding state
+unfolding ofBits scaled whole round
 at-24-650 s m =
+    let known = told _ _ _ (pTRule (whole 24) (whole 650)) pT-accepted in
     record {
-      answer = (value PT, state);
+      answer = (value PT, report (pTRule (whole 24) (whole 650)));
       exchanged = record { read = value (record { pair = PT; a = 0x4038_0000_0000_0000; b = 0x4084_5000_0000_0000 }); means = m; answer = refl };
       pair-is = refl;
-      number-is = accepted;
-      density-is = density;
+      number-is = known .0;
+      density-is = known .1;
     }
 
 at-NaN : (s : List ℕ) → Means s (value (record { pair = PT; a = 0x7ff8_0000_0000_0000; b = 0x4084_5000_0000_0000 })) → Answered s (value PT) 1 zeroF
@@ -81,7 +76,7 @@ at-NaN s m =
       exchanged = record { read = value (record { pair = PT; a = 0x7ff8_0000_0000_0000; b = 0x4084_5000_0000_0000 }); means = m; answer = refl };
       pair-is = refl;
       number-is = refl;
-      density-is = refl;
+      density-is = tt;
     }
 
 at-18-640 : (s : List ℕ) → Means s (value (record { pair = PT; a = 0x4032_0000_0000_0000; b = 0x4084_0000_0000_0000 })) → Answered s (value PT) 8 zeroF
@@ -92,7 +87,7 @@ at-18-640 s m =
       exchanged = record { read = value (record { pair = PT; a = 0x4032_0000_0000_0000; b = 0x4084_0000_0000_0000 }); means = m; answer = refl };
       pair-is = refl;
       number-is = refl;
-      density-is = refl;
+      density-is = tt;
     }
 
 pub points :

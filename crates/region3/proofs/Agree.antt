@@ -1,13 +1,12 @@
--- The column run beside the record and the letter choice. Assumes nothing.
+-- The column run beside the record and the letter choice.
 use Rattle.record.specs.Record.{byteOf}
 use Rattle.common.specs.Formula.{_⊘_}
-use Prim.Native.Nat.{ℕ}
-use native.Mathlib.Omega.{arith}
 use mathlib.Core.Path.{_≡_, refl, sym, ap, _∙_}
 use mathlib.Core.Bool.{Bool, true, false, cond}
 use lib.Ieee.{Float}
 use Rattle.common.specs.Outcome.{Outcome, value, refused, then, check}
 use Rattle.common.specs.Decimal.{whole}
+use Rattle.common.proofs.Calls.{went-on}
 use Rattle.common.specs.Constant.{DC-WATER}
 use Rattle.border.specs.Border.{region3Box}
 use Rattle.record.specs.State.{densityOf}
@@ -25,14 +24,6 @@ use Rattle.td_record.specs.declared.Pressure.{Pressure}
 use Rattle.td_record.specs.declared.Pressure.the-variants.{Worked}
 use Rattle.region3.specs.Entries.{pTRule}
 use Rattle.column_run.specs.Columns.{lineIn, rowRule, letterIn, densityIn, refusalIn}
-
-no-value : {B : Type 0} (n : ℕ) (b : B) → _≡_ {A = Outcome B} (refused n) (value b) → ⊥
-no-value n b e = let z : _≡_ {A = ℕ} 0 1 = cc in omega arith
-
--- where a step goes on to a value, it gave one
-went-on : {A B : Type 0} (o : Outcome A) (f : A → Outcome B) (b : B) (C : Type 0) → then o f ≡ value b → ((a : A) → o ≡ value a → f a ≡ value b → C) → C
-went-on (value a) f b C e k = k a refl e
-went-on (refused n) f b C e k = absurd (no-value n b e)
 
 -- a record's d is that of the state from which it is worked
 record-d : (t d v : Float) (source : Pressure) (r : Record) → recordSteps t d v source ≡ value r → r .d ≡ d

@@ -1,4 +1,4 @@
--- Each contract admits one answer, a record with its verdict. Assumes nothing.
+-- Each contract admits one answer, a record with its verdict.
 use Rattle.common.proofs.Same.{One}
 use Rattle.record.proofs.Unique.{same-record}
 use Rattle.region3.proofs.region3.pT_reg3.Kinds as pT-reg3-kinds

@@ -9,7 +9,7 @@ use Rattle.common.specs.Outcome.{Outcome, numberIn}
 use Rattle.record.specs.declared.Record.{Record}
 use Rattle.column_run.specs.Columns.{Lent, lent}
 use Rattle.secant.specs.Secant.{Proposal}
-use Rattle.search.specs.Calls.{Told}
+use Rattle.search.specs.Calls.{SearchedReport}
 use Rattle.region3_c.specs.Exported.{Exported, ExportedRecord, ExportedFound, ExportedSearched, ExportedColumns, lentRecord}
 
 pub exported-number : {o q : Outcome Float} (k : ℕ) (x : Float) → o ≡ q → Exported o k x → Exported q k x
@@ -21,8 +21,8 @@ exported-record k l e h = subst (λ (s : Outcome Unit × Record). ExportedRecord
 pub exported-found : {o q : Outcome Proposal} (k : ℕ) (x : Float) (n : ℕ) → o ≡ q → ExportedFound o k x n → ExportedFound q k x n
 exported-found k x n e h = subst (λ (o : Outcome Proposal). ExportedFound o k x n) e h
 
-pub exported-searched : {s q : Told} (k : ℕ) (l : List Float) (n : ℕ) → s ≡ q → ExportedSearched s k l n → ExportedSearched q k l n
-exported-searched k l n e h = subst (λ (s : Told). ExportedSearched s k l n) e h
+pub exported-searched : {s q : SearchedReport} (k : ℕ) (l : List Float) (n : ℕ) → s ≡ q → ExportedSearched s k l n → ExportedSearched q k l n
+exported-searched k l n e h = subst (λ (s : SearchedReport). ExportedSearched s k l n) e h
 
 module _ {q : Outcome Unit × Lent} (k : ℕ) (o : Outcome Unit) (letters : List ℕ) (densities : List Float) (refusals : List ℕ) where
   pub exported-columns : k ≡ numberIn o → (o, lent letters densities refusals) ≡ q → ExportedColumns q k letters densities refusals

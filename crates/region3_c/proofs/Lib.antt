@@ -1,4 +1,3 @@
 -- What the proofs of several functions use.
 mod Exports
 mod Unique
-mod Arguments

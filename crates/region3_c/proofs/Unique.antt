@@ -1,5 +1,6 @@
--- Each contract admits one answer: one refusal byte, and one content of what stands behind each pointer. The theorems are about the contracts'
--- own readings, `Reads.Post`. Assumes nothing.
+-- The contracts of the exported calls, in their own readings, `Reads.Post`. First, which argument is which, by its place: the first is T of `r3_td`, p of `r3_pt`,
+-- and so on, as bindings/c/region3.h has them, so that a contract whose arguments change places with those of its code is refused here. Then, that each admits one
+-- answer: one refusal byte, and one content of what stands behind each pointer. Assumes nothing.
 use mathlib.Core.Path.{_≡_, sym, ap, _∙_}
 use mathlib.Core.List.{List}
 use Prim.Native.Nat.{ℕ}
@@ -8,7 +9,19 @@ use denote.Ref.{now}
 use contract.Lifetimes.{Lfts}
 use denote.Triple.Clauses.{AtExit}
 use borrow.Fn.Kinds.{PK, RK, Out, Dens, endedOf, resT}
-use Rattle.column_run.specs.Columns.{Lent, lent}
+use Rattle.rules.specs.Root.{rootRule}
+use Rattle.rules.specs.Log.{logarithmRule}
+use Rattle.rules.specs.Exp.{exponentialRule}
+use Rattle.r4.specs.Saturation.{p-saturationRule, T-saturationRule}
+use Rattle.border.specs.Border.{B23-T2pRule, B23-p2TRule}
+use Rattle.boundary.specs.Choice.{letterRule}
+use Rattle.by_number.specs.Together.{cpAndWRule}
+use Rattle.record.specs.Record.{report}
+use Rattle.td_record.specs.Steps.{recordRule}
+use Rattle.region3.specs.Entries.{pTRule, phRule, psRule, hsRule}
+use Rattle.column_run.specs.Columns.{Lent, lent, columnsRule}
+use Rattle.search.specs.Calls.{pv2T-reg3Rule, Th2d-reg3Rule, Ts2d-reg3Rule, pvRule, ThRule, TsRule, reportSearched}
+use Rattle.region3_c.specs.Exported.{Exported, ExportedLetter, ExportedRecord, ExportedFound, ExportedSearched, ExportedColumns}
 use Rattle.exchange_entry.proofs.Unique.{one-exchange}
 use Rattle.region3_c.proofs.r3_write.Kinds as write-kinds
 use Rattle.region3_c.proofs.r3_write.Reads as write
@@ -60,6 +73,76 @@ use Rattle.region3_c.proofs.r3_ts.Kinds as ts-kinds
 use Rattle.region3_c.proofs.r3_ts.Reads as ts
 use Rattle.region3_c.proofs.r3_columns.Kinds as columns-kinds
 use Rattle.region3_c.proofs.r3_columns.Reads as columns
+
+-- ---- which argument is which
+
+abbrev pub Says : (n : ℕ) (ps : List (PK n)) (r : RK n) → Out n ps r → Out n ps r → Type 0
+Says n ps r post said = (κs : Lfts n) (a : Dens κs ps) (e : AtExit (endedOf n ps r) κs) (x : resT r κs .Denot) → post κs a x e → said κs a x e
+
+pub root-says : Says 1 root-kinds.ps root-kinds.r root.Post (λ κs a x e. Exported (rootRule (a .0)) x (now (e .1 .0)))
+root-says κs a e x p = p
+
+pub logarithm-says : Says 1 logarithm-kinds.ps logarithm-kinds.r logarithm.Post (λ κs a x e. Exported (logarithmRule (a .0)) x (now (e .1 .0)))
+logarithm-says κs a e x p = p
+
+pub exponential-says : Says 1 exponential-kinds.ps exponential-kinds.r exponential.Post (λ κs a x e. Exported (exponentialRule (a .0)) x (now (e .1 .0)))
+exponential-says κs a e x p = p
+
+pub p-saturation-says : Says 1 p-saturation-kinds.ps p-saturation-kinds.r p-saturation.Post (λ κs a x e. Exported (p-saturationRule (a .0)) x (now (e .1 .0)))
+p-saturation-says κs a e x p = p
+
+pub t-saturation-says : Says 1 t-saturation-kinds.ps t-saturation-kinds.r t-saturation.Post (λ κs a x e. Exported (T-saturationRule (a .0)) x (now (e .1 .0)))
+t-saturation-says κs a e x p = p
+
+pub p-border-says : Says 1 p-border-kinds.ps p-border-kinds.r p-border.Post (λ κs a x e. Exported (B23-T2pRule (a .0)) x (now (e .1 .0)))
+p-border-says κs a e x p = p
+
+pub t-border-says : Says 1 t-border-kinds.ps t-border-kinds.r t-border.Post (λ κs a x e. Exported (B23-p2TRule (a .0)) x (now (e .1 .0)))
+t-border-says κs a e x p = p
+
+pub cp-w-says : Says 3 cp-w-kinds.ps cp-w-kinds.r cp-w.Post (λ κs a x e. Exported (cpAndWRule (a .0) (a .1 .0) .cp) x (now (e .1 .1 .0)) × Exported (cpAndWRule (a .0) (a .1 .0) .w) (now (e .1 .1 .1 .1 .0)) (now (e .1 .1 .1 .0)))
+cp-w-says κs a e x p = p
+
+pub letter-says : Says 1 letter-kinds.ps letter-kinds.r letter.Post (λ κs a x e. ExportedLetter (letterRule (a .0) (a .1 .0)) x (now (e .1 .1 .0)))
+letter-says κs a e x p = p
+
+pub td-says : Says 1 td-kinds.ps td-kinds.r td.Post (λ κs a x e. ExportedRecord (report (recordRule (a .0) (a .1 .0))) x (now (e .1 .1 .0)))
+td-says κs a e x p = p
+
+pub pt-says : Says 1 pt-kinds.ps pt-kinds.r pt.Post (λ κs a x e. ExportedRecord (report (pTRule (a .0) (a .1 .0))) x (now (e .1 .1 .0)))
+pt-says κs a e x p = p
+
+pub ph-says : Says 1 ph-kinds.ps ph-kinds.r ph.Post (λ κs a x e. ExportedRecord (report (phRule (a .0) (a .1 .0))) x (now (e .1 .1 .0)))
+ph-says κs a e x p = p
+
+pub ps-says : Says 1 ps-kinds.ps ps-kinds.r ps.Post (λ κs a x e. ExportedRecord (report (psRule (a .0) (a .1 .0))) x (now (e .1 .1 .0)))
+ps-says κs a e x p = p
+
+pub hs-says : Says 1 hs-kinds.ps hs-kinds.r hs.Post (λ κs a x e. ExportedRecord (report (hsRule (a .0) (a .1 .0))) x (now (e .1 .1 .0)))
+hs-says κs a e x p = p
+
+pub pv2t-says : Says 2 pv2t-kinds.ps pv2t-kinds.r pv2t.Post (λ κs a x e. ExportedFound (pv2T-reg3Rule (a .0) (a .1 .0)) x (now (e .1 .1 .0)) (now (e .1 .1 .1 .0)))
+pv2t-says κs a e x p = p
+
+pub th2d-says : Says 2 th2d-kinds.ps th2d-kinds.r th2d.Post (λ κs a x e. ExportedFound (Th2d-reg3Rule (a .0) (a .1 .0)) x (now (e .1 .1 .0)) (now (e .1 .1 .1 .0)))
+th2d-says κs a e x p = p
+
+pub ts2d-says : Says 2 ts2d-kinds.ps ts2d-kinds.r ts2d.Post (λ κs a x e. ExportedFound (Ts2d-reg3Rule (a .0) (a .1 .0)) x (now (e .1 .1 .0)) (now (e .1 .1 .1 .0)))
+ts2d-says κs a e x p = p
+
+pub pv-says : Says 2 pv-kinds.ps pv-kinds.r pv.Post (λ κs a x e. ExportedSearched (reportSearched (pvRule (a .0) (a .1 .0))) x (now (e .1 .1 .0)) (now (e .1 .1 .1 .0)))
+pv-says κs a e x p = p
+
+pub th-says : Says 2 th-kinds.ps th-kinds.r th.Post (λ κs a x e. ExportedSearched (reportSearched (ThRule (a .0) (a .1 .0))) x (now (e .1 .1 .0)) (now (e .1 .1 .1 .0)))
+th-says κs a e x p = p
+
+pub ts-says : Says 2 ts-kinds.ps ts-kinds.r ts.Post (λ κs a x e. ExportedSearched (reportSearched (TsRule (a .0) (a .1 .0))) x (now (e .1 .1 .0)) (now (e .1 .1 .1 .0)))
+ts-says κs a e x p = p
+
+pub columns-says : Says 5 columns-kinds.ps columns-kinds.r columns.Post (λ κs a x e. ExportedColumns (columnsRule (now (a .0)) (now (a .1 .0)) (lent (now (a .1 .1 .0)) (now (a .1 .1 .1 .0)) (now (a .1 .1 .1 .1 .0)))) x (now (e .1 .1 .0)) (now (e .1 .1 .1 .0)) (now (e .1 .1 .1 .1 .0)))
+columns-says κs a e x p = p
+
+-- ---- one answer
 
 -- of any arguments, a contract admits one result and one content of what `behind` names
 abbrev pub OneBehind : (n : ℕ) (ps : List (PK n)) (r : RK n) → Out n ps r → (A : Type 0) → ((κs : Lfts n) → AtExit (endedOf n ps r) κs → A) → Type 0

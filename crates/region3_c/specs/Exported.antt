@@ -12,7 +12,7 @@ use Rattle.subregion.specs.Letter.{byteIn}
 use Rattle.record.specs.declared.Record.{Record}
 use Rattle.column_run.specs.Columns.{Lent, lent}
 use Rattle.secant.specs.Secant.{Proposal}
-use Rattle.search.specs.Calls.{Told}
+use Rattle.search.specs.Calls.{SearchedReport}
 use Rattle.exchange_record.specs.declared.Pair.{Pair}
 use Rattle.exchange_entry.specs.Call.{pairIn, Exchanged}
 
@@ -36,7 +36,7 @@ abbrev pub ExportedFound : Outcome Proposal → ℕ → Float → ℕ → Type 0
 ExportedFound o byte number trials = (byte ≡ numberIn o) × (number ≡ valueOr nothing o .x) × (trials ≡ valueOr nothing o .trials)
 
 -- a record whose state a search found, and its trials: +0.0 in every field and none beside a refusal
-abbrev pub ExportedSearched : Told → ℕ → List Float → ℕ → Type 0
+abbrev pub ExportedSearched : SearchedReport → ℕ → List Float → ℕ → Type 0
 ExportedSearched s byte fields trials = (byte ≡ numberIn (s .verdict)) × (fields ≡ fieldsOf (s .state)) × (trials ≡ s .trials)
 
 -- the three columns: as they were found beside a refusal

@@ -10,17 +10,13 @@ use record::RecordAnswer;
 use record::fields;
 use search::FoundAnswer;
 use search::SearchedRecord;
-use subregion::LetterAnswer;
-use subregion::letter_byte;
-use subregion::refusal_byte;
 ghost use mathlib.Core.Path.{_≡_};
 ghost use Rattle.common.specs.Answer.{paper};
-ghost use Rattle.subregion.specs.Letter.{paperLetter};
 ghost use Rattle.record.specs.Record.{paperRecord};
 ghost use Rattle.exchange_entry.specs.Call.{paperExchange};
-ghost use Rattle.place.specs.Found.{paperFound};
+ghost use Rattle.place.specs.AcceptedPlace.{paperFound};
 ghost use Rattle.search.specs.Calls.{paperSearched};
-ghost use Rattle.region3_c.specs.Exported.{lentRecord, Exported, ExportedLetter, ExportedRecord, ExportedFound, ExportedSearched, ExportedExchange};
+ghost use Rattle.region3_c.specs.Exported.{lentRecord, Exported, ExportedRecord, ExportedFound, ExportedSearched, ExportedExchange};
 
 // The caller's ten numbers, in the record's order.
 pub fn lent_record(xs: [f64; 10]) -> Record
@@ -53,13 +49,6 @@ pub fn exported(a: Answer, out: &mut f64) -> u8
             return number(k);
         }
     }
-}
-
-pub fn exported_letter(c: LetterAnswer, letter: &mut u8) -> u8
-    ensures { λ r. ⌜ ExportedLetter (paperLetter c) r (now (letter .exit)) ⌝ }
-{
-    *letter = letter_byte(c);
-    refusal_byte(c)
 }
 
 pub fn exported_record(a: RecordAnswer, out: &mut [f64; 10]) -> u8

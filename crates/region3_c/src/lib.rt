@@ -14,10 +14,11 @@ use common::verdict_byte;
 use exported::exported;
 use exported::exported_exchange;
 use exported::exported_found;
-use exported::exported_letter;
 use exported::exported_record;
 use exported::exported_searched;
 use exported::lent_record;
+use subregion::letter_byte;
+use subregion::refusal_byte;
 ghost use mathlib.Core.Path.{_≡_};
 ghost use Rattle.rules.specs.Power.{powerRule};
 ghost use Rattle.rules.specs.Root.{rootRule};
@@ -118,7 +119,9 @@ pub extern "C" fn r3_cp_w(t: f64, d: f64, cp: &mut f64, w: &mut f64, w_refusal: 
 pub extern "C" fn r3_letter(p: f64, t: f64, letter: &mut u8) -> u8
     ensures { λ r. ⌜ ExportedLetter (letterRule p t) r (now (letter .exit)) ⌝ }
 {
-    exported_letter(boundary::sub_region3_pT(MPa(p), Kelvin(t)), letter)
+    let c = boundary::sub_region3_pT(MPa(p), Kelvin(t));
+    *letter = letter_byte(c);
+    refusal_byte(c)
 }
 
 #[no_mangle]

@@ -1,18 +1,15 @@
--- The bytes of a reply: its head as one word, and their count; a test at each number below another. Assumes nothing.
+-- The bytes of a reply: its head as one word, and their count. Assumes nothing.
 use mathlib.Core.Path.{_≡_, refl, sym, ap, _∙_}
-use mathlib.Core.Bool.{Bool, true, false, _&&_}
-use mathlib.Core.Logic.{_⊎_, inl, inr}
 use mathlib.Core.List.{List, [], _∷_, _++_}
-use Prim.Native.Nat.{ℕ, zero, suc, _+_, _*_, _/_, _%_, _^_, _<_, _≤_}
-use native.Mathlib.Nat.{zero-add, mul-assoc, div-div-eq-div-mul, add-mul-div-left, add-mul-mod-self-left, div-eq-of-lt, mod-eq-of-lt, lt-of-lt-of-le, not-suc-le-zero, le-of-suc-le-suc, eq-or-lt-of-le}
-use native.Mathlib.Numerals.{add-one}
+use Prim.Native.Nat.{ℕ, _+_, _*_, _/_, _%_, _^_, _<_, _≤_}
+use native.Mathlib.Nat.{zero-add, mul-assoc, div-div-eq-div-mul, add-mul-div-left, add-mul-mod-self-left, div-eq-of-lt, mod-eq-of-lt, lt-of-lt-of-le}
 use native.Mathlib.Omega.{arith}
 use lib.Dec.{lit<, lit≤}
 use lib.ListN.{length}
 use lib.Ieee.{Float}
 use Rattle.buffer.specs.Bytes.{joined, eight}
 use Rattle.buffer.proofs.Laws.{joined-length}
-use Rattle.reply.specs.Bytes.{numberBytes, four, headBytes, replyBytes, below}
+use Rattle.reply.specs.Bytes.{numberBytes, four, headBytes, replyBytes}
 use Rattle.reply.specs.declared.Reply.{Reply}
 
 -- a byte of the lower half, and of the upper
@@ -50,22 +47,3 @@ number-length xs k = refl
 pub reply-length : (r : Reply) → length (replyBytes r) ≡ 88
 unfolding replyBytes joined
 reply-length r = ap (λ (n : ℕ). 8 + n) (joined-length (numberBytes (r .numbers)) 8 10 (number-length (r .numbers)))
-
--- ---- `below`
-
-pub below-more : (f : ℕ → Bool) (n : ℕ) → below f n ≡ true → f n ≡ true → below f (n + 1) ≡ true
-unfolding below
-below-more f n h k = rw (add-one n, h, k)
-
-pub below-not : (f : ℕ → Bool) (n k : ℕ) → k < n → f k ≡ false → below f n ≡ false
-unfolding below
-below-not f zero k l h = absurd (not-suc-le-zero l)
-below-not f (suc n) k l h = go (eq-or-lt-of-le (le-of-suc-le-suc l)) (below-not f n k)
-  where
-    neither : (a : Bool) → (a && false) ≡ false
-    neither true = refl
-    neither false = refl
-
-    go : (k ≡ n) ⊎ (k < n) → (k < n → f k ≡ false → below f n ≡ false) → (below f n && f n) ≡ false
-    go (inl e) r = ap (λ (b : Bool). (below f n && b)) (ap f (sym e) ∙ h) ∙ neither (below f n)
-    go (inr m) r = rw (r m h)

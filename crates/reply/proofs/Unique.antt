@@ -14,12 +14,8 @@ use Rattle.reply.proofs.shape.letter_reply.Kinds as letter-reply-kinds
 use Rattle.reply.proofs.shape.letter_reply.Reads as letter-reply
 use Rattle.reply.proofs.shape.record_reply.Kinds as record-reply-kinds
 use Rattle.reply.proofs.shape.record_reply.Reads as record-reply
-use Rattle.reply.proofs.shape.number_at.Kinds as number-at-kinds
-use Rattle.reply.proofs.shape.number_at.Reads as number-at
 use Rattle.reply.proofs.bytes.put_reply.Kinds as put-reply-kinds
 use Rattle.reply.proofs.bytes.put_reply.Reads as put-reply
-use Rattle.reply.proofs.bytes.agrees.Kinds as agrees-kinds
-use Rattle.reply.proofs.bytes.agrees.Reads as agrees
 
 pub refused-one : One 0 refused-kinds.ps refused-kinds.r refused.Post
 refused-one κs a e x y p q = p ∙ sym q
@@ -33,12 +29,6 @@ letter-reply-one κs a e x y p q = p ∙ sym q
 pub record-reply-one : One 0 record-reply-kinds.ps record-reply-kinds.r record-reply.Post
 record-reply-one κs a e x y p q = p ∙ sym q
 
-pub number-at-one : One 0 number-at-kinds.ps number-at-kinds.r number-at.Post
-number-at-one κs a e x y p q = p ∙ sym q
-
 pub put-reply-one : (κs : Lfts 1) (a : Dens κs put-reply-kinds.ps) (d e : AtExit (endedOf 1 put-reply-kinds.ps put-reply-kinds.r) κs) (x y : resT put-reply-kinds.r κs .Denot) →
     put-reply.Post κs a x d → put-reply.Post κs a y e → now (d .0) ≡ now (e .0)
 put-reply-one κs a d e x y p q = p ∙ sym q
-
-pub agrees-one : One 1 agrees-kinds.ps agrees-kinds.r agrees.Post
-agrees-one κs a e x y p q = p ∙ sym q

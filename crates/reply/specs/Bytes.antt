@@ -1,8 +1,6 @@
--- To believe: the 88 bytes of a reply; which stored answers agree with it.
-use Prim.Native.Nat.{ℕ, zero, suc, _+_, _/_, _%_, _^_}
-use mathlib.Core.Bool.{Bool, true, _&&_}
+-- To believe: the 88 bytes of a reply.
+use Prim.Native.Nat.{ℕ, _/_, _%_, _^_}
 use mathlib.Core.List.{List, [], _∷_, _++_}
-use lib.Dec.{eqb}
 use lib.ListN.{getD}
 use lib.Ieee.{Float, nan, binary64, toBits}
 use Rattle.buffer.specs.Bytes.{joined, eight}
@@ -23,12 +21,3 @@ headBytes refusal letter beside = (refusal ∷ letter ∷ 0 ∷ 0 ∷ []) ++ fou
 -- then the ten numbers
 unfoldable pub replyBytes : Reply → List ℕ
 replyBytes r = headBytes (r .refusal) (r .letter) (r .beside) ++ joined (numberBytes (r .numbers)) 10
-
--- a test passes at each number below n
-unfoldable pub below : (ℕ → Bool) → ℕ → Bool
-below f zero = true
-below f (suc n) = below f n && f n
-
--- whether the 88 bytes that follow the 24 of a row are those of a reply
-unfoldable pub agreed : Reply → List ℕ → Bool
-agreed r s = below (λ k. eqb (getD (replyBytes r) k 0) (getD s (24 + k) 0)) 88

@@ -1,10 +1,8 @@
 -- To believe: the shapes of a reply.
-use mathlib.Core.Bool.{cond}
 use Prim.Native.Nat.{ℕ}
-use mathlib.Core.List.{List, _∷_}
-use lib.Dec.{ltb}
-use lib.ListN.{getD, replicate}
-use lib.Ieee.{Float, nan}
+use mathlib.Core.List.{_∷_}
+use lib.ListN.{replicate}
+use lib.Ieee.{Float}
 use Rattle.common.specs.Outcome.{Outcome, numberIn, valueIn, zeroF}
 use Rattle.subregion.specs.declared.Letter.{Letter}
 use Rattle.subregion.specs.Letter.{byteIn}
@@ -27,7 +25,3 @@ letterReply o = record { refusal = numberIn o; letter = byteIn o; beside = 0; nu
 -- a call for a record has its fields in their order
 abbrev pub recordReply : Outcome Unit × Record → Reply
 recordReply a = record { refusal = numberIn (a .0); letter = 0; beside = 0; numbers = fieldsOf (a .1) }
-
--- one of a reply's ten numbers by its place, and +0.0 past them
-abbrev pub numberAt : List Float → ℕ → Float
-numberAt xs k = cond (ltb k 10) (getD xs k nan) zeroF

@@ -1,6 +1,5 @@
-// The 88 bytes of a reply, written and compared.
+// The 88 bytes of a reply.
 use crate::Reply;
-use buffer::byte_at;
 use buffer::put_float;
 use buffer::put_word;
 use buffer::wide;
@@ -9,7 +8,7 @@ ghost use Prim.Native.Nat.{_+_, _≤_, _<_, _^_};
 ghost use lib.ListN.{length};
 ghost use lib.Seq.{sets};
 ghost use Rattle.buffer.specs.Bytes.{eight, placed};
-ghost use Rattle.reply.specs.Bytes.{headBytes, replyBytes, agreed};
+ghost use Rattle.reply.specs.Bytes.{headBytes, replyBytes};
 
 // A whole number of 32 bits, with its bound.
 fn half(n: u32) -> u64
@@ -48,20 +47,4 @@ pub fn put_reply(out: &mut [u8], at: usize, r: Reply)
             put_bytes(out, at, r);
         }
     }
-}
-
-// Whether the 88 bytes that follow the 24 of a row are those of a reply.
-pub fn agrees(stored: &[u8], r: Reply) -> bool
-    ensures { λ b. ⌜ b ≡ agreed r (now (stored .entry)) ⌝ }
-{
-    let mut bytes = [0u8; 88];
-    put_bytes(&mut bytes, 0, r);
-    let mut k = 0;
-    while k < 88 {
-        if bytes[k] != byte_at(stored, 24 + k) {
-            return false;
-        }
-        k += 1;
-    }
-    true
 }

@@ -1,12 +1,9 @@
-// What a call answers, as the checking programs pass it on: a reply with its shapes (`shape`), and its 88 bytes, written and compared with
-// stored ones (`bytes`).
+// What a call answers, as the checking programs pass it on: a reply with its shapes (`shape`), and its 88 bytes (`bytes`).
 mod bytes;
 mod shape;
 
-pub use bytes::agrees;
 pub use bytes::put_reply;
 pub use shape::letter_reply;
-pub use shape::number_at;
 pub use shape::number_reply;
 pub use shape::record_reply;
 pub use shape::refused;

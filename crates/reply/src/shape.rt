@@ -12,7 +12,7 @@ ghost use mathlib.Core.Path.{_≡_};
 ghost use Rattle.common.specs.Answer.{paper};
 ghost use Rattle.subregion.specs.Letter.{paperLetter};
 ghost use Rattle.record.specs.Record.{paperRecord};
-ghost use Rattle.reply.specs.Shape.{refusedBy, numberReply, letterReply, recordReply, numberAt};
+ghost use Rattle.reply.specs.Shape.{refusedBy, numberReply, letterReply, recordReply};
 
 pub fn refused(k: u8) -> Reply
     ensures { λ r. ⌜ r ≡ refusedBy k ⌝ }
@@ -62,12 +62,4 @@ pub fn record_reply(a: RecordAnswer) -> Reply
         beside: 0,
         numbers: fields(x),
     }
-}
-
-// One of a reply's ten numbers by its place, and +0.0 past them.
-pub fn number_at(numbers: [f64; 10], which: u8) -> f64
-    ensures { λ r. ⌜ r ≡ numberAt numbers which ⌝ }
-{
-    let k = which as usize;
-    if k < 10 { numbers[k] } else { 0.0 }
 }

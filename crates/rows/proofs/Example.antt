@@ -10,7 +10,7 @@ use Rattle.rules.specs.Power.{powerRule}
 use Rattle.rules.specs.Root.{rootRule, nearestRoot, wholeRoot}
 use Rattle.r4.specs.Saturation.{p-saturation}
 use Rattle.border.specs.Border.{B23-p2T, besideBorder, region3Box}
-use Rattle.boundary.specs.Boundary.{walkRule, rowAt, table, straight3ef}
+use Rattle.boundaries.specs.Boundary.{walkRule, rowAt, table, straight3ef}
 use Rattle.boundary.specs.Choice.{letterRule, letterAt, limit, chijkRule}
 use Rattle.rows.specs.Lines.{lineOf, blockOf, lastLine, outputOf}
 use Rattle.buffer.specs.Bytes.{joined, floatAt}

@@ -3,28 +3,21 @@
 mod put;
 mod take;
 
+use common::least;
+use put::put_last;
 use put::put_lines;
 use take::take_rows;
-use text::put;
-use text::put_decimal;
 ghost use mathlib.Core.Path.{_≡_};
-ghost use Prim.Native.Nat.{_≤_, min};
+ghost use Prim.Native.Nat.{_≤_};
 ghost use lib.ListN.{length};
 ghost use lib.Seq.{sets};
 ghost use Rattle.text.specs.Text.{Wrote};
-ghost use Rattle.rows.specs.Lines.{pColumn, tColumn, rowsIn, pageOf, lastLine, endOf};
+ghost use Rattle.rows.specs.Lines.{pColumn, tColumn, rowsIn, pageOf, endOf};
 
-fn least(a: u64, b: u64) -> u64
-    ensures { λ r. ⌜ r ≡ min a b ⌝ }
-{
-    if a < b { a } else { b }
-}
-
-fn rows_in(done: u64, n: usize) -> u64
+fn rows_in(done: u64, n: usize) -> usize
     ensures { λ r. ⌜ r ≡ rowsIn done n ⌝ }
 {
-    let whole = (n / 16) as u64;
-    least(least(whole, 512), u64::MAX - done)
+    least(least(n / 16, 512), (u64::MAX - done) as usize)
 }
 
 // The lines of up to 512 rows, after `done` rows, by way of the two columns. Answers where they end.
@@ -40,20 +33,9 @@ pub fn page(
     ensures { λ _. ⌜ now (ps .exit) ≡ sets (now (ps .entry)) 0 (pColumn (now (bytes .entry)) (rowsIn done (length (now (bytes .entry))))) ⌝ }
     ensures { λ _. ⌜ now (ts .exit) ≡ sets (now (ts .entry)) 0 (tColumn (now (bytes .entry)) (rowsIn done (length (now (bytes .entry))))) ⌝ }
 {
-    let n = rows_in(done, bytes.len()) as usize;
+    let n = rows_in(done, bytes.len());
     take_rows(bytes, n, ps, ts);
     put_lines(ps, ts, n, done, lines)
-}
-
-fn put_last(rows: u64, left: u64, lines: &mut [u8; 16384]) -> usize
-    ensures { λ r. ⌜ Wrote (now (lines .entry)) 0 (lastLine rows left) (now (lines .exit)) r ⌝ }
-    ensures { λ r. ⌜ r ≤ 16384 ⌝ }
-{
-    let a = put(lines, 0, b"rows ");
-    let b = put_decimal(lines, a, rows);
-    let c = put(lines, b, b" left ");
-    let d = put_decimal(lines, c, left);
-    put(lines, d, b"\n")
 }
 
 // The last line, after the page of the same bytes. Answers where it ends.
@@ -61,6 +43,6 @@ pub fn last_line(bytes: &[u8], done: u64, lines: &mut [u8; 16384]) -> usize
     ensures { λ r. ⌜ Wrote (now (lines .entry)) 0 (endOf done (length (now (bytes .entry)))) (now (lines .exit)) r ⌝ }
     ensures { λ r. ⌜ r ≤ 16384 ⌝ }
 {
-    let n = rows_in(done, bytes.len());
+    let n = rows_in(done, bytes.len()) as u64;
     put_last(done + n, bytes.len() as u64 - 16 * n, lines)
 }

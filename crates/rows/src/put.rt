@@ -8,11 +8,12 @@ use subregion::refusal_byte;
 use text::put;
 use text::put_decimal;
 ghost use mathlib.Core.Path.{_≡_};
+ghost use mathlib.Core.List.{_++_};
 ghost use Prim.Native.Nat.{_+_, _*_, _≤_, _<_, _^_};
 ghost use lib.ListN.{length};
 ghost use Rattle.subregion.specs.Letter.{paperLetter};
-ghost use Rattle.text.specs.Text.{Wrote};
-ghost use Rattle.rows.specs.Lines.{markIn, lineOf, linesOf};
+ghost use Rattle.text.specs.Text.{decimal, Wrote};
+ghost use Rattle.rows.specs.Lines.{markIn, lineOf, linesOf, lastLine};
 
 fn mark(c: LetterAnswer) -> u8
     ensures { λ r. ⌜ r ≡ markIn (paperLetter c) ⌝ }
@@ -23,16 +24,23 @@ fn mark(c: LetterAnswer) -> u8
     }
 }
 
-// The line of one row, of 27 bytes at most; `put_decimal` wants 17 more.
+// A number and the text after it; `put_decimal` wants room for twenty digits.
+fn put_number(out: &mut [u8], at: usize, n: u64, after: &[u8]) -> usize
+    requires { ⌜ at + 20 + length (now after) ≤ length (now out) ⌝ }
+    ensures { λ r. ⌜ Wrote (now (out .entry)) at (decimal n ++ now (after .entry)) (now (out .exit)) r ⌝ }
+{
+    let next = put_decimal(out, at, n);
+    put(out, next, after)
+}
+
+// The line of one row, of 27 bytes at most.
 fn put_line(out: &mut [u8], at: usize, row: u64, c: LetterAnswer) -> usize
     requires { ⌜ at + 44 ≤ length (now out) ⌝ }
     ensures { λ r. ⌜ Wrote (now (out .entry)) at (lineOf row (paperLetter c)) (now (out .exit)) r ⌝ }
     ensures { λ r. ⌜ r ≤ at + 27 ⌝ }
 {
-    let a = put_decimal(out, at, row);
-    let b = put(out, a, &[b' ', mark(c), b' ']);
-    let d = put_decimal(out, b, refusal_byte(c) as u64);
-    put(out, d, b"\n")
+    let next = put_number(out, at, row, &[b' ', mark(c), b' ']);
+    put_number(out, next, refusal_byte(c) as u64, b"\n")
 }
 
 // The lines of the first n rows of the columns, from index 0 on.
@@ -50,4 +58,15 @@ pub fn put_lines(ps: &[f64], ts: &[f64], n: usize, done: u64, out: &mut [u8]) ->
         i += 1;
     }
     at
+}
+
+// The last line, of 52 bytes at most.
+pub fn put_last(rows: u64, left: u64, out: &mut [u8]) -> usize
+    requires { ⌜ 52 ≤ length (now out) ⌝ }
+    ensures { λ r. ⌜ Wrote (now (out .entry)) 0 (lastLine rows left) (now (out .exit)) r ⌝ }
+    ensures { λ r. ⌜ r ≤ 52 ⌝ }
+{
+    let a = put(out, 0, b"rows ");
+    let b = put_number(out, a, rows, b" left ");
+    put_number(out, b, left, b"\n")
 }

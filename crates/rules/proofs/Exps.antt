@@ -2,7 +2,6 @@
 -- Assumes nothing.
 use mathlib.Core.Path.{_≡_, refl, sym, ap, _∙_, subst}
 use mathlib.Core.Logic.{_⊎_, inl, inr}
-use mathlib.Core.List.{List, [], _∷_}
 use Prim.Native.Nat.{ℕ, zero, suc, _+_, _-_, _*_, _/_, _%_, _^_, _≤_, _<_, compare, Ordering, Ordering·lt, Ordering·eq, Ordering·gt}
 use native.Mathlib.Nat.{le-trans, le-of-eq, lt-of-lt-of-le, lt-of-le-of-lt, lt-of-not-le, not-le-of-lt, zero-lt-suc, zero-mul, one-mul, mul-one, mul-pos, mul-comm, mul-assoc, mul-right-comm, mul-le-mul-right, mul-lt-mul-of-pos-right, le-of-mul-le-mul-right, lt-of-mul-lt-mul-right, eq-of-mul-eq-mul-right, div-add-mod', div-mul-le-self, div-lt-iff-lt-mul, mod-eq-of-lt}
 use native.Mathlib.Omega.{arith}
@@ -10,13 +9,13 @@ use mathlib.Core.Bool.{Bool, true, false, not, _&&_, cond}
 use lib.Dec.{T, leb, ltb, leb→le, le→leb, ltb→lt, lt→ltb, lit≤, lit<}
 use lib.IntN.{ℤ, pos, negsuc, negℤ}
 use lib.Pow.{pow-pos, pow-add, pow-mono, pow-lt}
-use lib.Ieee.{Float, nan, inf, fin, binary64, up, down, size, nearest, fits, isNan, toBits, ofBits, round, neg, add, sub, mul, div, ofInt, le, lt}
+use lib.Ieee.{Float, nan, inf, fin, binary64, up, down, size, nearest, fits, isNan, toBits, ofBits, round, neg, mul, div, ofInt, le, lt}
 use lib.Ieee.Bits.{ofBits-toBits, ofBits-fits}
 use lib.Ieee.Fits.{up-pos, down-pos}
 use lib.Ieee.Exact.{HasValue}
 use lib.Ieee.Nearest.{closest, closest-same, closest-mono}
 use lib.Ieee.Order.{round-mono}
-use Rattle.common.specs.Outcome.{refused, finite, check}
+use Rattle.common.specs.Outcome.{finite, check}
 use Rattle.rules.specs.Log.{float, L}
 use Rattle.rules.specs.Exp.{wholeSize, withSign, nearestWhole, twoTo, from14, expSteps}
 use Rattle.rules.specs.RawExp.{rawExp, atMost1010}
@@ -108,12 +107,19 @@ module _ (m : ℕ) (e : ℤ) (f : T (fits binary64 (fin false m e))) where
       lt-of-lt-of-le (mul-lt-mul-of-pos-right (mul-lt-mul-of-pos-right g (pow-pos k)) (zero-lt-suc 1))
       (le-trans (mul-le-mul-right 2 (le-trans (le-of-eq (sym (pow-add 2 53 k))) (pow-mono {i = 53 + k} {j = 1073} (omega arith)))) (le-of-eq refl))
 
+  -- a normal number: its digits, with k places after them
+  normal : (toBits binary64 (fin false m e) / 2 ^ 52 ≡ 0 → ⊥)
+      → (k : ℕ) × (toBits binary64 (fin false m e) / 2 ^ 52 ≡ suc k) × (m * up e * 2 ^ 1074 ≡ (toBits binary64 (fin false m e) % 2 ^ 52 + 2 ^ 52) * 2 ^ k * down e)
+  normal n =
+      let c = toBits binary64 (fin false m e) in
+      let s = shape c (size-bits-lt m e f) n in
+      let r = c % 2 ^ 52 + 2 ^ 52 in
+      let v : HasValue (ofBits binary64 c) false (r * 2 ^ (s .0)) (2 ^ 1074) = subst (λ (y : ℕ). HasValue (ofBits binary64 y) false (r * 2 ^ (s .0)) (2 ^ 1074)) (sym (s .3)) (read-suc (s .0) r (s .2) (omega arith) (omega arith)) in
+      (s .0, s .1, of-value (r * 2 ^ (s .0)) v)
+
   pub small-whole : toBits binary64 (fin false m e) / 2 ^ 52 < 1022 → closest (m * up e) (down e) ≡ 0
   small-whole h = go (toBits binary64 (fin false m e) / 2 ^ 52) refl
     where
-      b : ℕ
-      b = toBits binary64 (fin false m e)
-
       go : (q : ℕ) → toBits binary64 (fin false m e) / 2 ^ 52 ≡ q → closest (m * up e) (down e) ≡ 0
       go zero z =
           let l : toBits binary64 (fin false m e) < 2 ^ 52 = omega arith in
@@ -121,22 +127,14 @@ module _ (m : ℕ) (e : ℤ) (f : T (fits binary64 (fin false m e))) where
           (below-half (toBits binary64 (fin false m e)) (of-value (toBits binary64 (fin false m e)) (read-0 (toBits binary64 (fin false m e)) l))
           (lt-of-lt-of-le (mul-lt-mul-of-pos-right l (zero-lt-suc 1)) (pow-mono {i = 53} {j = 1074} (omega arith))))
       go (suc q) z =
-          let c = toBits binary64 (fin false m e) in
-          let s = shape c (size-bits-lt m e f) (λ (y : c / 2 ^ 52 ≡ 0). absurd (omega arith)) in
-          let r = c % 2 ^ 52 + 2 ^ 52 in
-          let v : HasValue (ofBits binary64 c) false (r * 2 ^ (s .0)) (2 ^ 1074) = subst (λ (y : ℕ). HasValue (ofBits binary64 y) false (r * 2 ^ (s .0)) (2 ^ 1074)) (sym (s .3)) (read-suc (s .0) r (s .2) (omega arith) (omega arith)) in
-          half-0 (m * up e) (down e) (down-pos e)
-          (below-half (r * 2 ^ (s .0)) (of-value (r * 2 ^ (s .0)) v) (few (s .0) r (omega (arith, s .1)) (omega arith)))
+          let s = normal (λ y. absurd (omega arith)) in
+          let r = toBits binary64 (fin false m e) % 2 ^ 52 + 2 ^ 52 in
+          half-0 (m * up e) (down e) (down-pos e) (below-half (r * 2 ^ (s .0)) (s .2) (few (s .0) r (omega (arith, s .1)) (omega arith)))
 
   -- from a half on, and no more than 1010
   module _ (t : m * up e ≤ 1010 * down e) (l : 1022 ≤ toBits binary64 (fin false m e) / 2 ^ 52) where
     large : (k : ℕ) × (toBits binary64 (fin false m e) / 2 ^ 52 ≡ suc k) × (m * up e * 2 ^ 1074 ≡ (toBits binary64 (fin false m e) % 2 ^ 52 + 2 ^ 52) * 2 ^ k * down e)
-    large =
-        let c = toBits binary64 (fin false m e) in
-        let s = shape c (size-bits-lt m e f) (λ (y : c / 2 ^ 52 ≡ 0). absurd (omega arith)) in
-        let r = c % 2 ^ 52 + 2 ^ 52 in
-        let v : HasValue (ofBits binary64 c) false (r * 2 ^ (s .0)) (2 ^ 1074) = subst (λ (y : ℕ). HasValue (ofBits binary64 y) false (r * 2 ^ (s .0)) (2 ^ 1074)) (sym (s .3)) (read-suc (s .0) r (s .2) (omega arith) (omega arith)) in
-        (s .0, s .1, of-value (r * 2 ^ (s .0)) v)
+    large = normal (λ y. absurd (omega arith))
 
     bound : (k r : ℕ) → 2 ^ 52 ≤ r → m * up e * 2 ^ 1074 ≡ r * 2 ^ k * down e → k < 1032
     bound k r g h =
@@ -219,15 +217,6 @@ end-is : round binary64 false (700 * 2 ^ 53) 6243314768165359 ≡ fin false 1110
 unfolding round
 end-is = refl
 
-cross : (a w : ℕ) → a ≤ 700 * w → a * 2 ^ 53 * 6243314768165359 ≤ 700 * 2 ^ 53 * (6243314768165359 * w)
-cross a w h = omega arith
-
-room : (a w : ℕ) → a ≤ 700 * w → a * 2 ^ 53 ≤ 2048 * (6243314768165359 * w)
-room a w h = omega arith
-
-under-1010 : (n : ℕ) (w : ℕ) → n * 2 ^ 40 ≤ 1110381980954531 * 1 * w → n ≤ 1010 * w
-under-1010 n w h = omega arith
-
 module _ (m : ℕ) (e : ℤ) (h : m * up e ≤ 700 * down e) where
   quotient : Float
   quotient = round binary64 false (m * up e * 2 ^ 53) (6243314768165359 * down e)
@@ -236,12 +225,12 @@ module _ (m : ℕ) (e : ℤ) (h : m * up e ≤ 700 * down e) where
   positive-den = mul-pos (lit< {m = 0} {n = 6243314768165359} tt) (down-pos e)
 
   quotient-finite : finite (round binary64 false (m * up e * 2 ^ 53) (6243314768165359 * down e)) ≡ true
-  quotient-finite = small-finite (m * up e * 2 ^ 53) (6243314768165359 * down e) positive-den (room (m * up e) (down e) h)
+  quotient-finite = small-finite (m * up e * 2 ^ 53) (6243314768165359 * down e) positive-den (omega arith)
 
   quotient-le' : T (le (round binary64 false (m * up e * 2 ^ 53) (6243314768165359 * down e)) (fin false 1110381980954531 (negsuc 39)))
   quotient-le' =
       subst (λ (x : Float). T (le (round binary64 false (m * up e * 2 ^ 53) (6243314768165359 * down e)) x)) end-is
-      (round-mono binary64 (m * up e * 2 ^ 53) (6243314768165359 * down e) (700 * 2 ^ 53) 6243314768165359 positive-den (lit< {m = 0} {n = 6243314768165359} tt) (cross (m * up e) (down e) h))
+      (round-mono binary64 (m * up e * 2 ^ 53) (6243314768165359 * down e) (700 * 2 ^ 53) 6243314768165359 positive-den (lit< {m = 0} {n = 6243314768165359} tt) (omega arith))
 
   quotient-atMost1010 : T (atMost1010 (round binary64 false (m * up e * 2 ^ 53) (6243314768165359 * down e)))
   quotient-atMost1010 = go (round-shape binary64 false (m * up e * 2 ^ 53) (6243314768165359 * down e))
@@ -253,7 +242,7 @@ module _ (m : ℕ) (e : ℤ) (h : m * up e ≤ 700 * down e) where
       go (inr z) =
           subst (λ (x : Float). T (atMost1010 x)) (sym (z .2))
           (le→leb (z .0 * up (z .1)) (1010 * down (z .1))
-          (under-1010 (z .0 * up (z .1)) (down (z .1)) (le-sizes (z .0) (z .1) 1110381980954531 (negsuc 39) (subst (λ (x : Float). T (le x (fin false 1110381980954531 (negsuc 39)))) (z .2) quotient-le'))))
+          (omega (arith, le-sizes (z .0) (z .1) 1110381980954531 (negsuc 39) (subst (λ (x : Float). T (le x (fin false 1110381980954531 (negsuc 39)))) (z .2) quotient-le'))))
 
 atMost1010-neg : (x : Float) → T (atMost1010 x) → T (atMost1010 (neg x))
 unfolding neg
@@ -296,11 +285,8 @@ signed-whole nan f = never (sym f)
 signed-whole (inf s) f = never (sym f)
 signed-whole (fin false m e) f = ap (λ (b : Bool). withSign b (closest (m * up e) (down e))) (no (ltb (m * up e * 1) (0 * down e)) (ltb→lt (m * up e * 1) (0 * down e)))
   where
-    zero-less : (n z : ℕ) → z ≡ 0 → n < z → ⊥
-    zero-less n z h g = omega arith
-
     no : (b : Bool) → (T b → m * up e * 1 < 0 * down e) → b ≡ false
-    no true h = absurd (zero-less (m * up e * 1) (0 * down e) (zero-mul (down e)) (h tt))
+    no true h = absurd (omega (arith, zero-mul (down e), h tt))
     no false h = refl
 signed-whole (fin true zero e) f = rw (nothing e) (go (ltb 0 (zero * up e * 1 + 0 * down e)))
   where

@@ -10,12 +10,12 @@ use Rattle.common.specs.Formula.{Raw}
 use Rattle.common.proofs.Formulas.{Five, five-inside}
 use Rattle.common.proofs.Laws.{Lost, never, next, raw-inside}
 use Rattle.rules.specs.Power.{powerRule}
-use Rattle.rules.specs.RawPower.{keptPower}
+use Rattle.rules.specs.RawPower.{lookedPower}
 use Rattle.rules.specs.Root.{rootRule}
 use Rattle.rules.specs.Log.{logarithmRule}
 use Rattle.rules.specs.Exp.{exponentialRule}
 use Rattle.rules.specs.Formula.{powerOf, rootOf, logarithmOf, exponentialOf}
-use Rattle.rules.proofs.Powers.{power-kept}
+use Rattle.rules.proofs.Powers.{power-looked}
 use Rattle.rules.proofs.Raw as raw
 
 -- ---- the rules refuse what is lost
@@ -44,7 +44,7 @@ power-tied : (x : Float) (n : ℤ) (f small : Bool) → finite x ≡ f → leb (
 unfolding powerRule
 power-tied x n false small ef es = rw ef
 power-tied x n true false ef es = rw (ef, es)
-power-tied x n true true ef es = raw-inside (powerRule x n) (keptPower x n) (power-kept x n ef es)
+power-tied x n true true ef es = raw-inside (powerRule x n) (lookedPower x n) (power-looked x n ef es)
 
 pub raw-root-from : (x : Float) → T (fits binary64 x) → Raw (rootOf (value x)) (orNan (rootRule x))
 raw-root-from x f = record { is = sym (raw.raw-root x f) }

@@ -1,4 +1,3 @@
-pub mod Looks
 pub mod SignOf
 pub mod Powers
 pub mod Usual

@@ -67,21 +67,15 @@ plus-one (inf s) d j h g v = absurd v
 plus-one (fin true n i) d j h g v = absurd (subst T (v .0) tt)
 plus-one (fin false n i) d j h g v =
     small-finite (n * up i * 1 + 1 * down i) (down i * 1) (mul-pos (down-pos i) (pow-pos 0))
-    (three (n * up i) (down i) (le-of-mul-le-mul-right {n = 2 * down i} (le-trans (le-of-eq (v .1)) (at-most d j (down i) h g)) (pow-pos 1074)))
-  where
-    three : (a w : ℕ) → a ≤ 2 * w → a * 1 + 1 * w ≤ 2048 * (w * 1)
-    three a w h = omega arith
+    (omega (arith, le-of-mul-le-mul-right {n = 2 * down i} (le-trans (le-of-eq (v .1)) (at-most d j (down i) h g)) (pow-pos 1074)))
 
 -- ---- the places
 size-of : (x d e : ℕ) → 2 ^ 52 ≤ d → d < 2 ^ 53 → d * 2 ^ e ≡ x * 2 ^ 52 → size x ≡ suc e
 size-of x d e lo hi p =
     size-is x e
-    (le-of-mul-le-mul-right {n = x} (le-trans (le-of-eq (swap (2 ^ e) (2 ^ 52))) (le-trans (mul-le-mul-right (2 ^ e) lo) (le-of-eq p))) (pow-pos 52))
+    (le-of-mul-le-mul-right {n = x} (le-trans (le-of-eq (omega arith)) (le-trans (mul-le-mul-right (2 ^ e) lo) (le-of-eq p))) (pow-pos 52))
     (lt-of-mul-lt-mul-right (2 ^ 52) (lt-of-lt-of-le (subst (λ (y : ℕ). y < 2 ^ 53 * 2 ^ e) p (mul-lt-mul-of-pos-right hi (pow-pos e))) (le-of-eq (twice (2 ^ e) ∙ ap (λ (y : ℕ). y * 2 ^ 52) (sym (pow-succ' 2 e))))))
   where
-    swap : (a b : ℕ) → a * b ≡ b * a
-    swap a b = omega arith
-
     twice : (a : ℕ) → 2 ^ 53 * a ≡ 2 * a * 2 ^ 52
     twice a = omega arith
 
@@ -94,9 +88,6 @@ scaled-ge x d q p h = let g : 3 * 2 ^ 51 * q ≤ d * q = mul-le-mul-right q h in
 abbrev placed : ℕ → ℕ → ℕ
 placed x z = cond (ltb (2 * x) (3 * 2 ^ (z - 1))) (z - 1) z
 
-one-less : (e : ℕ) → suc e - 1 ≡ e
-one-less e = omega arith
-
 false-of : (b : Bool) → (T b → ⊥) → b ≡ false
 false-of true h = absurd (h tt)
 false-of false h = refl
@@ -104,13 +95,13 @@ false-of false h = refl
 places-low : (x d e : ℕ) → 2 ^ 52 ≤ d → d < 2 ^ 53 → d * 2 ^ e ≡ x * 2 ^ 52 → d < 3 * 2 ^ 51 → places x ≡ e
 places-low x d e lo hi p h =
     ap (λ (z : ℕ). placed x z) (size-of x d e lo hi p)
-    ∙ ap (λ (z : ℕ). cond (ltb (2 * x) (3 * 2 ^ z)) z (suc e)) (one-less e)
+    ∙ ap (λ (z : ℕ). cond (ltb (2 * x) (3 * 2 ^ z)) z (suc e)) (omega arith)
     ∙ ap (λ (b : Bool). cond b e (suc e)) (is-true (ltb (2 * x) (3 * 2 ^ e)) (lt→ltb (2 * x) (3 * 2 ^ e) (scaled-lt x d (2 ^ e) p (pow-pos e) h)))
 
 places-high : (x d e : ℕ) → 2 ^ 52 ≤ d → d < 2 ^ 53 → d * 2 ^ e ≡ x * 2 ^ 52 → 3 * 2 ^ 51 ≤ d → places x ≡ e + 1
 places-high x d e lo hi p h =
     ap (λ (z : ℕ). placed x z) (size-of x d e lo hi p)
-    ∙ ap (λ (z : ℕ). cond (ltb (2 * x) (3 * 2 ^ z)) z (suc e)) (one-less e)
+    ∙ ap (λ (z : ℕ). cond (ltb (2 * x) (3 * 2 ^ z)) z (suc e)) (omega arith)
     ∙ ap (λ (b : Bool). cond b e (suc e)) (false-of (ltb (2 * x) (3 * 2 ^ e)) (λ t. no (2 * x) (3 * 2 ^ e) (ltb→lt (2 * x) (3 * 2 ^ e) t) (scaled-ge x d (2 ^ e) p h)))
     ∙ more e
   where

@@ -1,51 +1,52 @@
--- The power rule is the power of `kept` numbers checked once: a lost r stays lost, and the test before 1/r hides nothing. In order: one look, the bits taken,
+-- The power rule is the power of `looked` numbers checked once: a lost r stays lost, and the test before 1/r hides nothing. In order: one look, the bits taken,
 -- how many of them there are does not matter above the highest, and the law. Assumes nothing.
 use mathlib.Core.Path.{_≡_, refl, sym, ap, _∙_}
 use mathlib.Core.Bool.{Bool, true, false, not, _&&_}
 use mathlib.Core.List.{List, [], _∷_}
-use Prim.Native.Nat.{ℕ, zero, suc, _/_, _*_, _^_, _<_, _≤_}
+use Prim.Native.Nat.{ℕ, zero, suc, _/_, _*_, _^_, _<_}
 use native.Mathlib.Nat.{pow-suc}
 use native.Mathlib.Omega.{arith}
 use lib.Dec.{eqb, leb}
 use lib.IntN.{ℤ, pos, negsuc, natAbs}
 use lib.Ieee.{Float, nan, inf, fin, binary64, size, mul, div}
 use lib.Ieee.Digits.{size-lt}
-use borrow.Author.Tests.{eqb-true, leb-true}
-use Rattle.common.specs.Outcome.{Outcome, finite, check, then, inside}
-use Rattle.common.proofs.Laws.{Lost, never, mul-left, check-kept, inside-check, step}
-use Rattle.rules.specs.Power.{one, odd, lowest, bits, subnormal, isZero, checkPower, byBits, bySign, powerRule}
-use Rattle.rules.specs.RawPower.{taken, times, overBits, rawHigherBits, rawByBits, bySignOf, kept, keptPower}
+use borrow.Author.Tests.{eqb-true}
+use Rattle.common.specs.Outcome.{Outcome, finite, check, then}
+use Rattle.common.proofs.Laws.{Lost, never, mul-left, check-kept, step}
+use Rattle.sizes.specs.Lost.{subnormal, isZero, looked}
+use Rattle.rules.specs.Power.{one, odd, lowest, bits, checkPower, byBits, bySign, powerRule}
+use Rattle.rules.specs.RawPower.{taken, times, overBits, rawHigherBits, rawByBits, bySignOf, lookedPower}
 
 -- ---- one look
 
-pub look-check : (a r : Float) → checkPower a r ≡ check (kept a r)
+pub look-check : (a r : Float) → checkPower a r ≡ check (looked a r)
 look-check a r = go (subnormal r && not (isZero a)) refl
   where
-    go : (b : Bool) → (subnormal r && not (isZero a)) ≡ b → checkPower a r ≡ check (kept a r)
+    go : (b : Bool) → (subnormal r && not (isZero a)) ≡ b → checkPower a r ≡ check (looked a r)
     go true e = rw e
     go false e = rw e
 
-pub look-lost : (a r : Float) → Lost r → Lost (kept a r)
+pub look-lost : (a r : Float) → Lost r → Lost (looked a r)
 look-lost a nan l = refl
 look-lost a (inf s) l = refl
 look-lost a (fin s m e) l = never l
 
 -- ---- the bits
 
-pub bits-lost : (a r x : Float) (bs : List Bool) → Lost r → Lost (overBits (kept a) r x bs)
+pub bits-lost : (a r x : Float) (bs : List Bool) → Lost r → Lost (overBits (looked a) r x bs)
 unfolding overBits
 bits-lost a r x [] l = l
-bits-lost a r x (true ∷ bs) l = bits-lost a (kept a (mul binary64 r x)) (mul binary64 x x) bs (look-lost a (mul binary64 r x) (mul-left r x l))
+bits-lost a r x (true ∷ bs) l = bits-lost a (looked a (mul binary64 r x)) (mul binary64 x x) bs (look-lost a (mul binary64 r x) (mul-left r x l))
 bits-lost a r x (false ∷ bs) l = bits-lost a r (mul binary64 x x) bs l
 
-pub bits-check : (a r x : Float) (bs : List Bool) → finite r ≡ true → byBits a r x bs ≡ check (overBits (kept a) r x bs)
+pub bits-check : (a r x : Float) (bs : List Bool) → finite r ≡ true → byBits a r x bs ≡ check (overBits (looked a) r x bs)
 unfolding byBits overBits
 bits-check a r x [] f = sym (check-kept r f)
 bits-check a r x (true ∷ bs) f =
-    let y = kept a (mul binary64 r x) in
+    let y = looked a (mul binary64 r x) in
     let x2 = mul binary64 x x in
     rw (look-check a (mul binary64 r x))
-    (step y (λ z. byBits a z x2 bs) (λ z. overBits (kept a) z x2 bs) (λ g. bits-check a y x2 bs g) (bits-lost a y x2 bs))
+    (step y (λ z. byBits a z x2 bs) (λ z. overBits (looked a) z x2 bs) (λ g. bits-check a y x2 bs g) (bits-lost a y x2 bs))
 bits-check a r x (false ∷ bs) f = bits-check a r (mul binary64 x x) bs f
 
 -- ---- bits above the highest are not set
@@ -78,7 +79,7 @@ by-bits k r a n h =
 
 -- ---- the law
 
-sign-check : (a : Float) (n : ℤ) (r : Float) → then (check r) (bySign a n) ≡ check (bySignOf (kept a) n r)
+sign-check : (a : Float) (n : ℤ) (r : Float) → then (check r) (bySign a n) ≡ check (bySignOf (looked a) n r)
 sign-check a (pos k) nan = refl
 sign-check a (pos k) (inf s) = refl
 sign-check a (pos k) (fin s m e) = refl
@@ -87,9 +88,9 @@ sign-check a (negsuc k) (inf s) = refl
 sign-check a (negsuc k) (fin s m e) = look-check a (div binary64 one (fin s m e))
 
 -- at a finite a and an n from -64 to 64
-pub power-kept : (a : Float) (n : ℤ) → finite a ≡ true → leb (natAbs n) 64 ≡ true → powerRule a n ≡ check (keptPower a n)
-unfolding powerRule keptPower
-power-kept a n fa small =
+pub power-looked : (a : Float) (n : ℤ) → finite a ≡ true → leb (natAbs n) 64 ≡ true → powerRule a n ≡ check (lookedPower a n)
+unfolding powerRule lookedPower
+power-looked a n fa small =
     rw (fa, small)
     (ap (λ (o : Outcome Float). then o (bySign a n)) (bits-check a one a (bits (natAbs n)) refl)
-    ∙ sign-check a n (overBits (kept a) one a (bits (natAbs n))))
+    ∙ sign-check a n (overBits (looked a) one a (bits (natAbs n))))

@@ -12,8 +12,9 @@ use lib.Ieee.Digits.{size-lt, size-reaches}
 use borrow.Author.Tests.{eq-eqb}
 use Rattle.common.specs.Outcome.{Outcome, value, finite, check, then}
 use Rattle.common.proofs.Laws.{Lost, next, check-lost, mul-left, mul-right}
+use Rattle.sizes.specs.Lost.{looked}
 use Rattle.rules.specs.Power.{one, odd, lowest, bits, checkPower, byBits}
-use Rattle.rules.specs.RawPower.{taken, overBits, kept}
+use Rattle.rules.specs.RawPower.{taken, overBits}
 use Rattle.rules.proofs.Powers.{look-check, look-lost, bits-lost, bits-check}
 
 -- as `byBits`, where a lost x*x is refused too
@@ -31,27 +32,27 @@ highest bit [] = bit
 highest bit (next ∷ higher) = highest next higher
 
 -- so r takes up a lost x
-taken-up : (a r x : Float) (b : Bool) (bs : List Bool) → Lost x → T (highest b bs) → Lost (overBits (kept a) r x (b ∷ bs))
+taken-up : (a r x : Float) (b : Bool) (bs : List Bool) → Lost x → T (highest b bs) → Lost (overBits (looked a) r x (b ∷ bs))
 unfolding overBits highest
 taken-up a r x true [] l t = look-lost a (mul binary64 r x) (mul-right r x l)
 taken-up a r x false [] l t = absurd t
-taken-up a r x b (c ∷ cs) l t = taken-up a (taken (kept a) b r x) (mul binary64 x x) c cs (mul-left x x l) t
+taken-up a r x b (c ∷ cs) l t = taken-up a (taken (looked a) b r x) (mul binary64 x x) c cs (mul-left x x l) t
 
-both-tests : (a r x : Float) (b : Bool) (bs : List Bool) → finite r ≡ true → T (highest b bs) → byBitsAndSquares a r x (b ∷ bs) ≡ check (overBits (kept a) r x (b ∷ bs))
+both-tests : (a r x : Float) (b : Bool) (bs : List Bool) → finite r ≡ true → T (highest b bs) → byBitsAndSquares a r x (b ∷ bs) ≡ check (overBits (looked a) r x (b ∷ bs))
 unfolding byBitsAndSquares overBits highest
 both-tests a r x b [] f t = bits-check a r x (b ∷ []) f
 both-tests a r x true (c ∷ cs) f t =
     let x2 = mul binary64 x x in
-    let s = kept a (mul binary64 r x) in
-    let o = check (overBits (kept a) s x2 (c ∷ cs)) in
+    let s = looked a (mul binary64 r x) in
+    let o = check (overBits (looked a) s x2 (c ∷ cs)) in
     rw (look-check a (mul binary64 r x))
     (next s _ o
-    (λ g. next x2 _ o (λ _. both-tests a s x2 c cs g t) (λ l. check-lost (overBits (kept a) s x2 (c ∷ cs)) (taken-up a s x2 c cs l t)))
-    (λ l. check-lost (overBits (kept a) s x2 (c ∷ cs)) (bits-lost a s x2 (c ∷ cs) l)))
+    (λ g. next x2 _ o (λ _. both-tests a s x2 c cs g t) (λ l. check-lost (overBits (looked a) s x2 (c ∷ cs)) (taken-up a s x2 c cs l t)))
+    (λ l. check-lost (overBits (looked a) s x2 (c ∷ cs)) (bits-lost a s x2 (c ∷ cs) l)))
 both-tests a r x false (c ∷ cs) f t =
     let x2 = mul binary64 x x in
-    let o = check (overBits (kept a) r x2 (c ∷ cs)) in
-    next x2 _ o (λ _. both-tests a r x2 c cs f t) (λ l. check-lost (overBits (kept a) r x2 (c ∷ cs)) (taken-up a r x2 c cs l t))
+    let o = check (overBits (looked a) r x2 (c ∷ cs)) in
+    next x2 _ o (λ _. both-tests a r x2 c cs f t) (λ l. check-lost (overBits (looked a) r x2 (c ∷ cs)) (taken-up a r x2 c cs l t))
 
 top : (k n : ℕ) → 2 ^ k ≤ n → n < 2 ^ suc k → T (highest (odd n) (lowest k (n / 2)))
 unfolding highest lowest

@@ -1,53 +1,34 @@
 -- Each contract admits one answer. The theorems are about the contracts' own readings, `Reads.Post`. Assumes nothing.
 use mathlib.Core.Path.{sym, _∙_}
 use Rattle.common.proofs.Same.{One, same-answer}
-use Rattle.rules.proofs.powi.magnitude.Kinds as magnitude-kinds
-use Rattle.rules.proofs.powi.magnitude.Reads as magnitude
-use Rattle.rules.proofs.powi.bare_power.Kinds as bare-power-kinds
-use Rattle.rules.proofs.powi.bare_power.Reads as bare-power
-use Rattle.rules.proofs.powi.raw_power.Kinds as raw-power-kinds
-use Rattle.rules.proofs.powi.raw_power.Reads as raw-power
-use Rattle.rules.proofs.powi.power.Kinds as power-kinds
-use Rattle.rules.proofs.powi.power.Reads as power
-use Rattle.rules.proofs.sqrt.root.Kinds as root-kinds
-use Rattle.rules.proofs.sqrt.root.Reads as root
-use Rattle.rules.proofs.sqrt.raw_root.Kinds as raw-root-kinds
-use Rattle.rules.proofs.sqrt.raw_root.Reads as raw-root
-use Rattle.rules.proofs.ln.logarithm.Kinds as logarithm-kinds
-use Rattle.rules.proofs.ln.logarithm.Reads as logarithm
-use Rattle.rules.proofs.ln.raw_logarithm.Kinds as raw-logarithm-kinds
-use Rattle.rules.proofs.ln.raw_logarithm.Reads as raw-logarithm
-use Rattle.rules.proofs.exp.exponential.Kinds as exponential-kinds
-use Rattle.rules.proofs.exp.exponential.Reads as exponential
-use Rattle.rules.proofs.exp.raw_exponential.Kinds as raw-exponential-kinds
-use Rattle.rules.proofs.exp.raw_exponential.Reads as raw-exponential
+use Rattle.rules.proofs as rules
 
-pub power-one : One 0 power-kinds.ps power-kinds.r power.Post
+pub power-one : One 0 rules.powi.power.Kinds.ps rules.powi.power.Kinds.r rules.powi.power.Reads.Post
 power-one κs a e x y p q = same-answer _ x y p q
 
-pub root-one : One 0 root-kinds.ps root-kinds.r root.Post
+pub root-one : One 0 rules.sqrt.root.Kinds.ps rules.sqrt.root.Kinds.r rules.sqrt.root.Reads.Post
 root-one κs a e x y p q = same-answer _ x y p q
 
-pub logarithm-one : One 0 logarithm-kinds.ps logarithm-kinds.r logarithm.Post
+pub logarithm-one : One 0 rules.ln.logarithm.Kinds.ps rules.ln.logarithm.Kinds.r rules.ln.logarithm.Reads.Post
 logarithm-one κs a e x y p q = same-answer _ x y p q
 
-pub exponential-one : One 0 exponential-kinds.ps exponential-kinds.r exponential.Post
+pub exponential-one : One 0 rules.exp.exponential.Kinds.ps rules.exp.exponential.Kinds.r rules.exp.exponential.Reads.Post
 exponential-one κs a e x y p q = same-answer _ x y p q
 
-pub magnitude-one : One 0 magnitude-kinds.ps magnitude-kinds.r magnitude.Post
+pub magnitude-one : One 0 rules.powi.magnitude.Kinds.ps rules.powi.magnitude.Kinds.r rules.powi.magnitude.Reads.Post
 magnitude-one κs a e x y p q = p ∙ sym q
 
-pub bare-power-one : One 0 bare-power-kinds.ps bare-power-kinds.r bare-power.Post
+pub bare-power-one : One 0 rules.powi.bare_power.Kinds.ps rules.powi.bare_power.Kinds.r rules.powi.bare_power.Reads.Post
 bare-power-one κs a e x y p q = p ∙ sym q
 
-pub raw-power-one : One 0 raw-power-kinds.ps raw-power-kinds.r raw-power.Post
+pub raw-power-one : One 0 rules.powi.raw_power.Kinds.ps rules.powi.raw_power.Kinds.r rules.powi.raw_power.Reads.Post
 raw-power-one κs a e x y p q = p ∙ sym q
 
-pub raw-root-one : One 0 raw-root-kinds.ps raw-root-kinds.r raw-root.Post
+pub raw-root-one : One 0 rules.sqrt.raw_root.Kinds.ps rules.sqrt.raw_root.Kinds.r rules.sqrt.raw_root.Reads.Post
 raw-root-one κs a e x y p q = p ∙ sym q
 
-pub raw-logarithm-one : One 0 raw-logarithm-kinds.ps raw-logarithm-kinds.r raw-logarithm.Post
+pub raw-logarithm-one : One 0 rules.ln.raw_logarithm.Kinds.ps rules.ln.raw_logarithm.Kinds.r rules.ln.raw_logarithm.Reads.Post
 raw-logarithm-one κs a e x y p q = p ∙ sym q
 
-pub raw-exponential-one : One 0 raw-exponential-kinds.ps raw-exponential-kinds.r raw-exponential.Post
+pub raw-exponential-one : One 0 rules.exp.raw_exponential.Kinds.ps rules.exp.raw_exponential.Kinds.r rules.exp.raw_exponential.Reads.Post
 raw-exponential-one κs a e x y p q = p ∙ sym q

@@ -1,12 +1,12 @@
 -- Where no r on the way to a power can be lost, the power with no look at any is the rule's: at bases that are neither small nor large, at 0, and so at usual
 -- ones. Assumes nothing.
 use mathlib.Core.Path.{_≡_, refl, sym, ap, _∙_, subst}
-use mathlib.Core.Bool.{Bool, true, false, not, _&&_}
+use mathlib.Core.Bool.{Bool, true, false}
 use mathlib.Core.List.{List, [], _∷_}
 use Prim.Native.Nat.{ℕ, zero, suc, _+_, _*_, _/_, _%_, _^_, _≤_, _<_}
 use native.Mathlib.Nat.{le-trans, le-of-eq, mul-le-mul-left, zero-add}
 use native.Mathlib.Omega.{arith}
-use lib.Dec.{eqb, leb}
+use lib.Dec.{leb}
 use lib.IntN.{ℤ, pos, negsuc, natAbs}
 use lib.Pow.{pow-mono}
 use lib.Ieee.{Float, nan, inf, fin, binary64, up, down, size, mul, div}
@@ -15,18 +15,19 @@ use Rattle.common.specs.Outcome.{finite, check, orNan}
 use Rattle.common.specs.Formula.{lostOr}
 use Rattle.common.proofs.Formulas.{lostOr-finite}
 use Rattle.common.proofs.Laws.{never, check-kept}
+use Rattle.sizes.specs.Lost.{isZero, looked}
 use Rattle.sizes.specs.Usual.{usualBase}
+use Rattle.sizes.proofs.Looks.{zero-looked}
 use Rattle.sizes.proofs.Band.{Band, mul-band, inverse-band, usual-band}
-use Rattle.rules.specs.Power.{one, odd, lowest, bits, subnormal, isZero, powerRule}
-use Rattle.rules.specs.RawPower.{taken, overBits, rawByBits, bySignOf, rawBySign, rawPower, kept, keptPower}
-use Rattle.rules.proofs.Looks.{zero-kept}
-use Rattle.rules.proofs.Powers.{by-bits, power-kept}
+use Rattle.rules.specs.Power.{one, odd, lowest, bits, powerRule}
+use Rattle.rules.specs.RawPower.{overBits, bySignOf, rawBySign, rawPower, lookedPower}
+use Rattle.rules.proofs.Powers.{by-bits, power-looked}
 
 -- a normal number is left as it is
-kept-same : (k : ℕ) (a r : Float) → k ≤ 1022 → Band k r → kept a r ≡ r
-kept-same k a nan h b = refl
-kept-same k a (inf s) h b = refl
-kept-same k a (fin s m e) h b =
+looked-same : (k : ℕ) (a r : Float) → k ≤ 1022 → Band k r → looked a r ≡ r
+looked-same k a nan h b = refl
+looked-same k a (inf s) h b = refl
+looked-same k a (fin s m e) h b =
     rw (le-ltb (m * up e * 2 ^ 1022) (down e) (le-trans (b .least) (mul-le-mul-left (m * up e) (pow-mono h))))
 
 -- what the bits stand for
@@ -52,8 +53,8 @@ weight-lowest (suc k) n = go (odd n) refl (weight-lowest k (n / 2))
 
 -- r from 2^-i to 2^i and x from 2^-j to 2^j, as long as a set bit remains: so are the numbers on the way, and none is lost
 pub record Same (a : Float) (bs : List Bool) (r x : Float) (k : ℕ) : Type 0 where
-  pub equal : overBits (kept a) r x bs ≡ overBits (λ r. r) r x bs
-  pub band : Band k (overBits (kept a) r x bs)
+  pub equal : overBits (looked a) r x bs ≡ overBits (λ r. r) r x bs
+  pub band : Band k (overBits (looked a) r x bs)
 
 same-bits : (a : Float) (bs : List Bool) (i j : ℕ) (r x : Float) → i + j * weight bs ≤ 1022 → Band i r → (0 < weight bs → Band j x) → Same a bs r x (i + j * weight bs)
 unfolding overBits weight
@@ -64,21 +65,15 @@ same-bits a [] i j r x h b c = record { equal = refl; band = subst (λ (k : ℕ)
 same-bits a (true ∷ bs) i j r x h b c =
     let w = weight bs in
     let y = mul binary64 r x in
-    let x-band = c (one-more w) in
-    let y-band = mul-band i j r x (first i j w h) b x-band in
+    let x-band = c (omega arith) in
+    let y-band = mul-band i j r x (omega arith) b x-band in
     let s = same-bits a bs (i + j) (j + j) y (mul binary64 x x) (le-trans (le-of-eq (all i j w)) h) y-band (λ p. mul-band j j x x (pair i j w p h) x-band x-band) in
-    let k = kept-same (i + j) a y (first i j w h) y-band in
+    let k = looked-same (i + j) a y (omega arith) y-band in
     record {
-      equal = ap (λ (z : Float). overBits (kept a) z (mul binary64 x x) bs) k ∙ s .equal;
-      band = subst (λ (k : ℕ). Band k (overBits (kept a) (kept a y) (mul binary64 x x) bs)) (all i j w) (subst (λ (z : Float). Band (i + j + (j + j) * w) (overBits (kept a) z (mul binary64 x x) bs)) (sym k) (s .band));
+      equal = ap (λ (z : Float). overBits (looked a) z (mul binary64 x x) bs) k ∙ s .equal;
+      band = subst (λ (k : ℕ). Band k (overBits (looked a) (looked a y) (mul binary64 x x) bs)) (all i j w) (subst (λ (z : Float). Band (i + j + (j + j) * w) (overBits (looked a) z (mul binary64 x x) bs)) (sym k) (s .band));
     }
   where
-    one-more : (w : ℕ) → 0 < 1 + 2 * w
-    one-more w = omega arith
-
-    first : (i j w : ℕ) → i + j * (1 + 2 * w) ≤ 1022 → i + j ≤ 1022
-    first i j w h = omega arith
-
     all : (i j w : ℕ) → i + j + (j + j) * w ≡ i + j * (1 + 2 * w)
     all i j w = omega arith
 
@@ -87,12 +82,9 @@ same-bits a (true ∷ bs) i j r x h b c =
     pair i j (suc w) p h = omega arith
 same-bits a (false ∷ bs) i j r x h b c =
     let w = weight bs in
-    let s = same-bits a bs i (j + j) r (mul binary64 x x) (le-trans (le-of-eq (all i j w)) h) b (λ p. let x-band = c (still w p) in mul-band j j x x (pair i j w p h) x-band x-band) in
-    record { equal = s .equal; band = subst (λ (k : ℕ). Band k (overBits (kept a) r (mul binary64 x x) bs)) (all i j w) (s .band) }
+    let s = same-bits a bs i (j + j) r (mul binary64 x x) (le-trans (le-of-eq (all i j w)) h) b (λ p. let x-band = c (omega arith) in mul-band j j x x (pair i j w p h) x-band x-band) in
+    record { equal = s .equal; band = subst (λ (k : ℕ). Band k (overBits (looked a) r (mul binary64 x x) bs)) (all i j w) (s .band) }
   where
-    still : (w : ℕ) → 0 < w → 0 < 2 * w
-    still w p = omega arith
-
     all : (i j w : ℕ) → i + (j + j) * w ≡ i + j * (2 * w)
     all i j w = omega arith
 
@@ -102,49 +94,49 @@ same-bits a (false ∷ bs) i j r x h b c =
 
 -- so is 1/r, and it is not lost
 pub record SameSign (a : Float) (n : ℤ) (r : Float) : Type 0 where
-  pub equal : bySignOf (kept a) n r ≡ rawBySign n r
+  pub equal : bySignOf (looked a) n r ≡ rawBySign n r
   pub whole : finite (rawBySign n r) ≡ true
 
 same-sign : (a : Float) (n : ℤ) (k : ℕ) (r : Float) → k ≤ 1022 → Band k r → SameSign a n r
 same-sign a (pos n) k r h b = record { equal = refl; whole = b .kept }
 same-sign a (negsuc n) k r h b =
     let c = inverse-band k r h b in
-    record { equal = ap (lostOr r) (kept-same k a (div binary64 one r) h c); whole = rw (lostOr-finite r (div binary64 one r) (b .kept)) (c .kept) }
+    record { equal = ap (lostOr r) (looked-same k a (div binary64 one r) h c); whole = rw (lostOr-finite r (div binary64 one r) (b .kept)) (c .kept) }
 
 one-band : Band 0 one
 one-band = record { kept = refl; least = omega arith; most = omega arith }
 
 pub record SamePower (a : Float) (n : ℤ) : Type 0 where
-  pub equal : keptPower a n ≡ rawPower a n
+  pub equal : lookedPower a n ≡ rawPower a n
   pub whole : finite (rawPower a n) ≡ true
 
 same-power : (j : ℕ) (a : Float) (n : ℤ) → Band j a → leb (natAbs n) 64 ≡ true → j * natAbs n ≤ 1022 → SamePower a n
-unfolding keptPower rawPower
+unfolding lookedPower rawPower
 same-power j a n b small far =
     let few : natAbs n ≤ 64 = leb-true (natAbs n) 64 small in
     let w = weight (bits (natAbs n)) in
     let fits : 0 + j * w ≤ 1022 = le-trans (le-of-eq (zero-add (j * w))) (le-trans (mul-le-mul-left j (weight-lowest (size (natAbs n)) (natAbs n))) far) in
     let s = same-bits a (bits (natAbs n)) 0 j one a fits one-band (λ _. b) in
-    let t = same-sign a n (0 + j * w) (overBits (kept a) one a (bits (natAbs n))) fits (s .band) in
+    let t = same-sign a n (0 + j * w) (overBits (looked a) one a (bits (natAbs n))) fits (s .band) in
     let e = ap (rawBySign n) (s .equal ∙ by-bits 31 one a (natAbs n) (omega arith)) in
     record { equal = t .equal ∙ e; whole = ap finite (sym e) ∙ t .whole }
 
 -- ---- the law, for an n from -64 to 64: at a base from 2^-j to 2^j in size, where 2^(j*|n|) is a normal f64
 
 pub power-band : (j : ℕ) (a : Float) (n : ℤ) → Band j a → leb (natAbs n) 64 ≡ true → j * natAbs n ≤ 1022 → powerRule a n ≡ check (rawPower a n)
-power-band j a n b small far = power-kept a n (b .kept) small ∙ ap check (same-power j a n b small far .equal)
+power-band j a n b small far = power-looked a n (b .kept) small ∙ ap check (same-power j a n b small far .equal)
 
 -- at 0, of which nothing is subnormal
-zero-bits : (a r x : Float) (bs : List Bool) → isZero a ≡ true → overBits (kept a) r x bs ≡ overBits (λ r. r) r x bs
+zero-bits : (a r x : Float) (bs : List Bool) → isZero a ≡ true → overBits (looked a) r x bs ≡ overBits (λ r. r) r x bs
 unfolding overBits
 zero-bits a r x [] z = refl
 zero-bits a r x (true ∷ bs) z =
-    ap (λ (y : Float). overBits (kept a) y (mul binary64 x x) bs) (sym (zero-kept a (mul binary64 r x) z)) ∙ zero-bits a (mul binary64 r x) (mul binary64 x x) bs z
+    ap (λ (y : Float). overBits (looked a) y (mul binary64 x x) bs) (sym (zero-looked a (mul binary64 r x) z)) ∙ zero-bits a (mul binary64 r x) (mul binary64 x x) bs z
 zero-bits a r x (false ∷ bs) z = zero-bits a r (mul binary64 x x) bs z
 
-zero-sign : (a : Float) (n : ℤ) (r : Float) → isZero a ≡ true → bySignOf (kept a) n r ≡ rawBySign n r
+zero-sign : (a : Float) (n : ℤ) (r : Float) → isZero a ≡ true → bySignOf (looked a) n r ≡ rawBySign n r
 zero-sign a (pos n) r z = refl
-zero-sign a (negsuc n) r z = ap (lostOr r) (sym (zero-kept a (div binary64 one r) z))
+zero-sign a (negsuc n) r z = ap (lostOr r) (sym (zero-looked a (div binary64 one r) z))
 
 zero-finite : (a : Float) → isZero a ≡ true → finite a ≡ true
 zero-finite nan z = never (sym z)
@@ -152,24 +144,21 @@ zero-finite (inf s) z = never (sym z)
 zero-finite (fin s m e) z = refl
 
 pub power-zero : (a : Float) (n : ℤ) → isZero a ≡ true → leb (natAbs n) 64 ≡ true → powerRule a n ≡ check (rawPower a n)
-unfolding keptPower rawPower
+unfolding lookedPower rawPower
 power-zero a n z small =
     let few : natAbs n ≤ 64 = leb-true (natAbs n) 64 small in
-    power-kept a n (zero-finite a z) small
-    ∙ ap check (zero-sign a n (overBits (kept a) one a (bits (natAbs n))) z
+    power-looked a n (zero-finite a z) small
+    ∙ ap check (zero-sign a n (overBits (looked a) one a (bits (natAbs n))) z
     ∙ ap (rawBySign n) (zero-bits a one a (bits (natAbs n)) z ∙ by-bits 31 one a (natAbs n) (omega arith)))
 
 -- at a usual base, for any such n
-far-enough : (n : ℕ) → n ≤ 64 → 15 * n ≤ 1022
-far-enough n h = omega arith
-
 pub usual-finite : (a : Float) → usualBase a ≡ true → finite a ≡ true
 usual-finite a u = usual-band a u .kept
 
 pub power-usual : (a : Float) (n : ℤ) → usualBase a ≡ true → leb (natAbs n) 64 ≡ true → powerRule a n ≡ check (rawPower a n)
-power-usual a n u small = power-band 15 a n (usual-band a u) small (far-enough (natAbs n) (leb-true (natAbs n) 64 small))
+power-usual a n u small = power-band 15 a n (usual-band a u) small (omega (arith, leb-true (natAbs n) 64 small))
 
 -- and its raw form is the power with no look at it
 pub usual-raw : (a : Float) (n : ℤ) → usualBase a ≡ true → leb (natAbs n) 64 ≡ true → orNan (powerRule a n) ≡ rawPower a n
 usual-raw a n u small =
-    ap orNan (power-usual a n u small ∙ check-kept (rawPower a n) (same-power 15 a n (usual-band a u) small (far-enough (natAbs n) (leb-true (natAbs n) 64 small)) .whole))
+    ap orNan (power-usual a n u small ∙ check-kept (rawPower a n) (same-power 15 a n (usual-band a u) small (omega (arith, leb-true (natAbs n) 64 small)) .whole))

@@ -1,12 +1,13 @@
 -- To believe: the power rule (docs/SCOPE.md, the four written rules). In order: the bits of |n|, when a power is lost, the bits taken one by one, the sign
 -- of n, and the rule. Assumes nothing: these are definitions.
-use Prim.Native.Nat.{ℕ, zero, suc, _*_, _/_, _%_, _^_}
+use Prim.Native.Nat.{ℕ, zero, suc, _/_, _%_}
 use mathlib.Core.Bool.{Bool, true, false, not, _&&_, cond}
 use mathlib.Core.List.{List, [], _∷_}
-use lib.Dec.{eqb, leb, ltb}
+use lib.Dec.{eqb, leb}
 use lib.IntN.{ℤ, pos, negsuc, natAbs}
-use lib.Ieee.{Float, nan, inf, fin, binary64, up, down, size, mul, div}
+use lib.Ieee.{Float, fin, binary64, size, mul, div}
 use Rattle.common.specs.Outcome.{Outcome, value, refused, finite, check, then}
+use Rattle.sizes.specs.Lost.{subnormal, isZero}
 
 abbrev pub one : Float
 one = fin false 1 (pos 0)
@@ -22,18 +23,6 @@ lowest (suc k) n = odd n ∷ lowest k (n / 2)
 -- its bits, the lowest first: `size` counts them, and 0 has none
 abbrev pub bits : ℕ → List Bool
 bits n = lowest (size n) n
-
--- the size of r is below 2^-1022, the smallest normal f64: digits are lost, or all of it is
-abbrev pub subnormal : Float → Bool
-subnormal nan = false
-subnormal (inf s) = false
-subnormal (fin s m e) = ltb (m * up e * 2 ^ 1022) (down e)
-
--- 0 or -0
-abbrev pub isZero : Float → Bool
-isZero nan = false
-isZero (inf s) = false
-isZero (fin s m e) = eqb m 0
 
 -- Every r on the way to a power of a, and its result, is looked at once: a lost one is refused with 5. When a power is lost is said here alone: where it
 -- is not finite, and where a is not 0 and it is subnormal or 0.

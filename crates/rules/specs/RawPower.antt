@@ -2,13 +2,14 @@
 -- the same by the number |n| itself and with each r as it is, and the sign of n; then the power with no look at it, which is the rule's at usual bases
 -- (proofs/Usual), and the one with a NaN for each r that is lost, which is the rule's at any (proofs/Powers). Assumes nothing: these are definitions.
 use Prim.Native.Nat.{ℕ, zero, suc, _/_}
-use mathlib.Core.Bool.{Bool, true, false, not, _&&_, cond}
+use mathlib.Core.Bool.{Bool, true, false}
 use mathlib.Core.List.{List, [], _∷_}
 use lib.Dec.{eqb}
 use lib.IntN.{ℤ, pos, negsuc, natAbs}
-use lib.Ieee.{Float, nan, binary64, mul, div}
+use lib.Ieee.{Float, binary64, mul, div}
 use Rattle.common.specs.Formula.{lostOr}
-use Rattle.rules.specs.Power.{one, odd, bits, subnormal, isZero}
+use Rattle.sizes.specs.Lost.{looked}
+use Rattle.rules.specs.Power.{one, odd, bits}
 
 -- r*x as f leaves it, where the bit is set
 abbrev pub taken : (Float → Float) → Bool → Float → Float → Float
@@ -46,10 +47,6 @@ rawBySign = bySignOf (λ r. r)
 unfoldable pub rawPower : Float → ℤ → Float
 rawPower a n = rawBySign n (rawByBits 31 one a (natAbs n))
 
--- an r on the way to a power of a, or a NaN where its digits are lost
-abbrev pub kept : Float → Float → Float
-kept a r = cond (subnormal r && not (isZero a)) nan r
-
-unfoldable pub keptPower : Float → ℤ → Float
+unfoldable pub lookedPower : Float → ℤ → Float
 unfolding overBits
-keptPower a n = bySignOf (kept a) n (overBits (kept a) one a (bits (natAbs n)))
+lookedPower a n = bySignOf (looked a) n (overBits (looked a) one a (bits (natAbs n)))

@@ -4,14 +4,16 @@ use common::Refusal;
 use common::is_finite;
 use common::or_nan;
 use common::settle;
+use sizes::look;
 use sizes::usual;
 ghost use mathlib.Core.Path.{_≡_};
 ghost use Prim.Native.Nat.{ℕ, suc, _<_, _^_};
 ghost use lib.IntN.{natAbs};
 ghost use Rattle.common.specs.Outcome.{orNan};
 ghost use Rattle.common.specs.Answer.{paper};
+ghost use Rattle.sizes.specs.Lost.{looked};
 ghost use Rattle.rules.specs.Power.{lowest, powerRule};
-ghost use Rattle.rules.specs.RawPower.{overBits, rawByBits, rawPower, kept, keptPower};
+ghost use Rattle.rules.specs.RawPower.{overBits, rawByBits, rawPower, lookedPower};
 
 pub fn magnitude(n: i32) -> u32
     ensures { λ r. ⌜ r ≡ natAbs n ⌝ }
@@ -40,25 +42,9 @@ pub fn bare_power(a: f64, n: i32) -> f64
     }
 }
 
-// An r on the way to a power of a, or a NaN where a is not 0 and r is below the smallest normal f64 in size.
-fn look(a: f64, r: f64) -> f64
-    ensures { λ out. ⌜ out ≡ kept a r ⌝ }
-{
-    if a == 0.0 {
-        return r;
-    }
-    if 2.2250738585072014e-308 <= r {
-        return r;
-    }
-    if r <= -2.2250738585072014e-308 {
-        return r;
-    }
-    0.0 / 0.0
-}
-
 // As `by_bits`, from r and x on, and with a look at each r.
 fn looked_bits(a: f64, r: f64, x: f64, n: u32) -> f64
-    ensures { λ out. ⌜ ((k : ℕ) → n < 2 ^ suc k → out ≡ overBits (kept a) r x (lowest (suc k) n)) ⌝ }
+    ensures { λ out. ⌜ ((k : ℕ) → n < 2 ^ suc k → out ≡ overBits (looked a) r x (lowest (suc k) n)) ⌝ }
 {
     let s = if n % 2 == 1 { look(a, r * x) } else { r };
     let h = n / 2;
@@ -70,7 +56,7 @@ fn looked_bits(a: f64, r: f64, x: f64, n: u32) -> f64
 }
 
 fn looked_power(a: f64, n: i32) -> f64
-    ensures { λ r. ⌜ r ≡ keptPower a n ⌝ }
+    ensures { λ r. ⌜ r ≡ lookedPower a n ⌝ }
 {
     let r = looked_bits(a, 1.0, a, magnitude(n));
     if n < 0 {

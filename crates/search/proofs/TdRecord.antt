@@ -2,7 +2,7 @@
 use Prim.Native.Nat.{ℕ}
 use mathlib.Core.Path.{_≡_, refl, sym, _∙_}
 use mathlib.Core.Bool.{Bool, true, false, cond}
-use lib.Ieee.{Float, binary64, div, round}
+use lib.Ieee.{Float, round}
 use Rattle.common.specs.Outcome.{Outcome, value, refused, finite, check}
 use Rattle.common.specs.Decimal.{whole, scaled}
 use Rattle.common.specs.Formula.{Raw}
@@ -10,13 +10,12 @@ use Rattle.common.specs.Range.{TdBox}
 use Rattle.common.proofs.Formulas.{raw-value, raw-check, raw-div}
 use Rattle.properties.specs.Td.{Td2v}
 use Rattle.record.specs.declared.Record.{Record}
-use Rattle.td_record.specs.Steps.{recordSteps, recordRule}
+use Rattle.td_record.specs.Steps.{recordRule}
 use Rattle.td_record.specs.declared.Pressure.the-variants.{Worked}
 use Rattle.td_record.proofs.RecordSteps.{steps-after}
-use Rattle.secant.specs.Secant.{Proposal}
 use Rattle.secant.specs.declared.Curve.the-variants.{Isochore, Enthalpy, Entropy}
 use Rattle.checks.specs.Checks.{checkPRule, checkHRule, checkSRule}
-use Rattle.checks.proofs.Promise.{went-on, no-value}
+use Rattle.common.proofs.Calls.{went-on, no-value}
 use Rattle.place.proofs.Trials.{found-accepted, passed}
 use Rattle.search.specs.Calls.{densityBy, pvBox, ThBox, TsBox, pv2T-reg3Rule, Th2d-reg3Rule, Ts2d-reg3Rule, recordOn, recordFound, Searched, pvRule, ThRule, TsRule}
 use Rattle.search.proofs.Answered.{record-state}
@@ -24,8 +23,8 @@ use Rattle.search.proofs.Answered.{record-state}
 -- a box that is passed has a finite d
 known : (b c : Bool) (o : Outcome Unit) (u : Unit) → cond b (cond c o (refused 1)) (refused 1) ≡ value u → c ≡ true
 known true true o u e = refl
-known true false o u e = absurd (no-value 1 u e)
-known false c o u e = absurd (no-value 1 u e)
+known true false o u e = absurd (no-value e)
+known false c o u e = absurd (no-value e)
 
 volume-raw : (t d : Float) → finite d ≡ true → Raw (Td2v (check t) (check d)) (densityBy d)
 unfolding Td2v whole scaled round

@@ -5,7 +5,7 @@ use Rattle.common.specs.declared.Verdict.{Verdict}
 use Rattle.common.proofs.Same.{One, same-verdict}
 use Rattle.record.specs.declared.Record.{Record}
 use Rattle.place.proofs.Unique.{same-found}
-use Rattle.search.specs.Calls.{Told, paperSearched}
+use Rattle.search.specs.Calls.{SearchedReport, paperSearched}
 use Rattle.search.specs.declared.SearchedRecord.{SearchedRecord}
 use Rattle.search.proofs.calls.pv2T_reg3.Kinds as pv2T-reg3-kinds
 use Rattle.search.proofs.calls.pv2T_reg3.Reads as pv2T-reg3
@@ -23,12 +23,12 @@ use Rattle.search.proofs.calls.Ts_reg3.Reads as Ts-reg3
 together : (v w : Verdict) (r s : Record) (m n : ℕ) → v ≡ w → r ≡ s → m ≡ n → _≡_ {A = SearchedRecord} (record { verdict = v; «record» = r; trials = m }) (record { verdict = w; «record» = s; trials = n })
 together v w r s m n e f g = cc
 
-pub same-searched : (o : Told) (a b : SearchedRecord) → paperSearched a ≡ o → paperSearched b ≡ o → a ≡ b
+pub same-searched : (o : SearchedReport) (a b : SearchedRecord) → paperSearched a ≡ o → paperSearched b ≡ o → a ≡ b
 same-searched o a b p q =
     together _ _ _ _ _ _
-    (same-verdict (o .verdict) _ _ (ap (λ (z : Told). z .verdict) p) (ap (λ (z : Told). z .verdict) q))
-    (cc (ap (λ (z : Told). z .state) p, ap (λ (z : Told). z .state) q))
-    (cc (ap (λ (z : Told). z .trials) p, ap (λ (z : Told). z .trials) q))
+    (same-verdict (o .verdict) _ _ (ap (λ (z : SearchedReport). z .verdict) p) (ap (λ (z : SearchedReport). z .verdict) q))
+    (cc (ap (λ (z : SearchedReport). z .state) p, ap (λ (z : SearchedReport). z .state) q))
+    (cc (ap (λ (z : SearchedReport). z .trials) p, ap (λ (z : SearchedReport). z .trials) q))
 
 pub pv2T-reg3-one : One 0 pv2T-reg3-kinds.ps pv2T-reg3-kinds.r pv2T-reg3.Post
 pv2T-reg3-one κs a e x y p q = same-found _ x y p q

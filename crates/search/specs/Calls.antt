@@ -13,7 +13,7 @@ use Rattle.td_record.specs.Steps.{recordSteps}
 use Rattle.td_record.specs.declared.Pressure.the-variants.{Worked}
 use Rattle.secant.specs.Secant.{Proposal}
 use Rattle.secant.specs.declared.Curve.the-variants.{Isochore, Enthalpy, Entropy}
-use Rattle.place.specs.Found.{foundOn}
+use Rattle.place.specs.AcceptedPlace.{foundOn}
 use Rattle.search.specs.declared.SearchedRecord.{SearchedRecord}
 
 -- ---- the boxes
@@ -58,37 +58,41 @@ recordFound o n = then o (λ r. value (record { state = r; trials = n }))
 abbrev pub recordOn : Float → Float → Outcome Record
 recordOn t d = recordSteps t d (div binary64 (whole 1) d) Worked
 
+-- on an isotherm, at the d that was found
+abbrev pub recordAlong : Float → Proposal → Outcome Searched
+recordAlong t q = recordFound (recordOn t (q .x)) (q .trials)
+
 unfoldable pub pvRule : Float → Float → Outcome Searched
 unfolding pv2T-reg3Rule
 pvRule p v = then (pv2T-reg3Rule p v) (λ q. recordFound (recordOn (q .x) (densityBy v)) (q .trials))
 
 unfoldable pub ThRule : Float → Float → Outcome Searched
 unfolding Th2d-reg3Rule
-ThRule t h = then (Th2d-reg3Rule t h) (λ q. recordFound (recordOn t (q .x)) (q .trials))
+ThRule t h = then (Th2d-reg3Rule t h) (recordAlong t)
 
 unfoldable pub TsRule : Float → Float → Outcome Searched
 unfolding Ts2d-reg3Rule
-TsRule t s = then (Ts2d-reg3Rule t s) (λ q. recordFound (recordOn t (q .x)) (q .trials))
+TsRule t s = then (Ts2d-reg3Rule t s) (recordAlong t)
 
--- ---- what a caller is told: all +0.0 and no trial where the call is refused
+-- ---- what a caller gets: all +0.0 and no trial where the call is refused
 
-pub record Told : Type 0 where
+pub record SearchedReport : Type 0 where
   pub verdict : Outcome Unit
   pub state : Record
   pub trials : ℕ
 
-abbrev pub reportSearched : Outcome Searched → Told
+abbrev pub reportSearched : Outcome Searched → SearchedReport
 reportSearched (value a) = record { verdict = value tt; state = a .state; trials = a .trials }
 reportSearched (refused k) = record { verdict = refused k; state = zeroRecord; trials = 0 }
 
-abbrev pub paperSearched : SearchedRecord → Told
+abbrev pub paperSearched : SearchedRecord → SearchedReport
 paperSearched a = record { verdict = paperVerdict (a .verdict); state = a .record; trials = a .trials }
 
 -- ---- Helps proofs only: an answer for a record, with the trials that led to it
 
-abbrev pub toldBy : ℕ → Outcome Unit → Record → Told
-toldBy n (value u) r = record { verdict = value u; state = r; trials = n }
-toldBy n (refused k) r = record { verdict = refused k; state = r; trials = 0 }
+abbrev pub trialsBy : ℕ → Outcome Unit → ℕ
+trialsBy n (value u) = n
+trialsBy n (refused k) = 0
 
-abbrev pub withTrials : ℕ → Outcome Unit × Record → Told
-withTrials n a = toldBy n (a .0) (a .1)
+abbrev pub withTrials : ℕ → Outcome Unit × Record → SearchedReport
+withTrials n a = record { verdict = a .0; state = a .1; trials = trialsBy n (a .0) }

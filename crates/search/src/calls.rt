@@ -29,13 +29,13 @@ use secant::Curve;
 use td_record::Pressure;
 use td_record::work_record;
 ghost use mathlib.Core.Path.{_≡_};
-ghost use Rattle.common.specs.Outcome.{refused};
+ghost use Rattle.common.specs.Outcome.{refused, then};
 ghost use Rattle.common.specs.Answer.{numberOf, paperVerdict};
 ghost use Rattle.record.specs.Record.{paperRecord};
 ghost use Rattle.td_record.specs.Steps.{recordSteps};
 ghost use Rattle.td_record.specs.declared.Pressure.the-variants.{Worked};
-ghost use Rattle.place.specs.Found.{paperFound};
-ghost use Rattle.search.specs.Calls.{pvBox, ThBox, TsBox, pv2T-reg3Rule, Th2d-reg3Rule, Ts2d-reg3Rule, recordFound, withTrials, pvRule, ThRule, TsRule, paperSearched, reportSearched};
+ghost use Rattle.place.specs.AcceptedPlace.{foundOn, paperFound};
+ghost use Rattle.search.specs.Calls.{pvBox, ThBox, TsBox, pv2T-reg3Rule, Th2d-reg3Rule, Ts2d-reg3Rule, recordFound, recordAlong, trialsBy, withTrials, pvRule, ThRule, TsRule, paperSearched, reportSearched};
 
 // The checks of the three pairs. A volume is held to the range of its density, which is worked for that: 1/v of a v next to 0 is outside.
 pub fn check_pv(p: MPa, v: M3PerKg) -> Verdict
@@ -67,53 +67,56 @@ pub fn check_Ts(t: Kelvin, s: KJPerKgK) -> Verdict
     check_pair(t.0, T_FROM, T_TO, s.0, S_FROM, S_TO)
 }
 
+// What is found on a curve, where the box accepts.
+fn found_in(verdict: Verdict, curve: Curve, y: f64) -> FoundAnswer
+    ensures { λ r. ⌜ paperFound r ≡ then (paperVerdict verdict) (λ _. foundOn curve y) ⌝ }
+{
+    match verdict {
+        Verdict::Accepted => found(curve, y),
+        Verdict::Refused(k) => FoundAnswer::Refused(k),
+    }
+}
+
 // The T at p and v.
 pub fn pv2T_reg3(p: MPa, v: M3PerKg) -> FoundAnswer
     ensures { λ r. ⌜ paperFound r ≡ pv2T-reg3Rule (p .0) (v .0) ⌝ }
 {
-    match check_pv(p, v) {
-        Verdict::Accepted => found(Curve::Isochore(1.0 / v.0), p.0),
-        Verdict::Refused(k) => FoundAnswer::Refused(k),
-    }
+    found_in(check_pv(p, v), Curve::Isochore(1.0 / v.0), p.0)
 }
 
 // The d at T and h.
 pub fn Th2d_reg3(t: Kelvin, h: KJPerKg) -> FoundAnswer
     ensures { λ r. ⌜ paperFound r ≡ Th2d-reg3Rule (t .0) (h .0) ⌝ }
 {
-    match check_Th(t, h) {
-        Verdict::Accepted => found(Curve::Enthalpy(t.0), h.0),
-        Verdict::Refused(k) => FoundAnswer::Refused(k),
-    }
+    found_in(check_Th(t, h), Curve::Enthalpy(t.0), h.0)
 }
 
 // The d at T and s.
 pub fn Ts2d_reg3(t: Kelvin, s: KJPerKgK) -> FoundAnswer
     ensures { λ r. ⌜ paperFound r ≡ Ts2d-reg3Rule (t .0) (s .0) ⌝ }
 {
-    match check_Ts(t, s) {
-        Verdict::Accepted => found(Curve::Entropy(t.0), s.0),
-        Verdict::Refused(k) => FoundAnswer::Refused(k),
+    found_in(check_Ts(t, s), Curve::Entropy(t.0), s.0)
+}
+
+// The trials that led to a record's state: none where it is refused.
+fn trials_by(verdict: Verdict, trials: u32) -> u32
+    ensures { λ r. ⌜ r ≡ trialsBy trials (paperVerdict verdict) ⌝ }
+{
+    match verdict {
+        Verdict::Accepted => trials,
+        Verdict::Refused(_) => 0,
     }
 }
 
-// A record with the trials that led to its state: none where it is refused.
 fn counted(a: RecordAnswer, trials: u32) -> SearchedRecord
     ensures { λ r. ⌜ paperSearched r ≡ withTrials trials (paperRecord a) ⌝ }
 {
     let verdict = a.verdict;
     let record = a.record;
-    match verdict {
-        Verdict::Accepted => SearchedRecord {
-            verdict,
-            record,
-            trials,
-        },
-        Verdict::Refused(_) => SearchedRecord {
-            verdict,
-            record,
-            trials: 0,
-        },
+    SearchedRecord {
+        verdict,
+        record,
+        trials: trials_by(verdict, trials),
     }
 }
 
@@ -143,22 +146,26 @@ pub fn pv_reg3(given: Record, p: MPa, v: M3PerKg) -> SearchedRecord
     }
 }
 
+// The record at a T and the d that was found there.
+fn on_isotherm(given: Record, t: Kelvin, place: FoundAnswer) -> SearchedRecord
+    ensures { λ r. ⌜ paperSearched r ≡ reportSearched (then (paperFound place) (recordAlong (t .0))) ⌝ }
+{
+    match place {
+        FoundAnswer::Value(d, trials) => record_at(given, t, KgPerM3(d), 1.0 / d, trials),
+        FoundAnswer::Refused(k) => refused_record(given, k),
+    }
+}
+
 // The record at (T,h).
 pub fn Th_reg3(given: Record, t: Kelvin, h: KJPerKg) -> SearchedRecord
     ensures { λ r. ⌜ paperSearched r ≡ reportSearched (ThRule (t .0) (h .0)) ⌝ }
 {
-    match Th2d_reg3(t, h) {
-        FoundAnswer::Value(d, trials) => record_at(given, t, KgPerM3(d), 1.0 / d, trials),
-        FoundAnswer::Refused(k) => refused_record(given, k),
-    }
+    on_isotherm(given, t, Th2d_reg3(t, h))
 }
 
 // The record at (T,s).
 pub fn Ts_reg3(given: Record, t: Kelvin, s: KJPerKgK) -> SearchedRecord
     ensures { λ r. ⌜ paperSearched r ≡ reportSearched (TsRule (t .0) (s .0)) ⌝ }
 {
-    match Ts2d_reg3(t, s) {
-        FoundAnswer::Value(d, trials) => record_at(given, t, KgPerM3(d), 1.0 / d, trials),
-        FoundAnswer::Refused(k) => refused_record(given, k),
-    }
+    on_isotherm(given, t, Ts2d_reg3(t, s))
 }

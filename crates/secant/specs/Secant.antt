@@ -56,12 +56,13 @@ openedBy s =
     cond (eq e zeroF) (value s) (then (stepBy s e) (λ dx. value (placed (s .xl) (s .fl) (s .x) (s .f) dx))))
 
 -- the start point at which less is missing is the newer one, and the second where as much is
+abbrev pub newerLast : Float → Float → Float → Float → Secant
+newerLast x1 f1 x2 f2 = cond (lt (sizeOf f1) (sizeOf f2)) (placed x2 f2 x1 f1 zeroF) (placed x1 f1 x2 f2 zeroF)
+
 unfoldable pub startOf : Curve → Float → Float → Float → Outcome Secant
 unfolding missingAt openedBy
 startOf curve y x1 x2 =
-    then (missingAt curve y x1) (λ f1.
-    then (missingAt curve y x2) (λ f2.
-    openedBy (cond (lt (sizeOf f1) (sizeOf f2)) (placed x2 f2 x1 f1 zeroF) (placed x1 f1 x2 f2 zeroF))))
+    then (missingAt curve y x1) (λ f1. then (missingAt curve y x2) (λ f2. openedBy (newerLast x1 f1 x2 f2)))
 
 -- ---- a trial
 
@@ -69,13 +70,13 @@ startOf curve y x1 x2 =
 abbrev pub liftedTo : Float → Float
 liftedTo x = cond (le x zeroF) (decimal 0_000001 6) x
 
+-- the place x, to which the step dx led, with what is missing there
+abbrev pub arrivedAt : Curve → Float → Secant → Float → Float → Outcome Secant
+arrivedAt curve y s dx x = then (missingAt curve y x) (λ f. value (placed (s .x) (s .f) x f dx))
+
 unfoldable pub trialBy : Curve → Float → Secant → Float → Outcome Secant
 unfolding missingAt
-trialBy curve y s e =
-    then (stepBy s e) (λ dx.
-    then (value (s .x) ⊕ value dx) (λ x.
-    then (missingAt curve y (liftedTo x)) (λ f.
-    value (placed (s .x) (s .f) (liftedTo x) f dx))))
+trialBy curve y s e = then (stepBy s e) (λ dx. then (value (s .x) ⊕ value dx) (λ x. arrivedAt curve y s dx (liftedTo x)))
 
 -- the search ends, or goes on from another place
 pub data Next : Type 0 where

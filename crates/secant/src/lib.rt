@@ -9,8 +9,9 @@ use properties::raw_h;
 use properties::raw_p;
 use properties::raw_s;
 ghost use mathlib.Core.Path.{_≡_};
-ghost use Rattle.common.specs.Formula.{Raw};
-ghost use Rattle.secant.specs.Secant.{along, missingAt, liftedTo, openedBy, startOf, trialBy, turnOf, proposalFrom, proposalRule, paperSecant, paperTurn, paperProposal};
+ghost use lib.Ieee.{lt};
+ghost use Rattle.common.specs.Formula.{Raw, sizeOf};
+ghost use Rattle.secant.specs.Secant.{CONVERGENCE-PRECISION, along, missingAt, liftedTo, openedBy, newerLast, startOf, arrivedAt, trialBy, turnOf, proposalFrom, proposalRule, paperSecant, paperTurn, paperProposal};
 
 // A property along the one of T and d that is searched, at the other.
 pub enum Curve {
@@ -57,15 +58,22 @@ const CONVERGENCE_PRECISION: f64 = 1.0e-8;
 // Where a place that is not above 0 is put.
 const LIFTED: f64 = 0.000001;
 
+// The property along a curve, with no range test.
+fn property(curve: Curve, x: f64) -> f64
+    ensures { λ r. ⌜ Raw (along curve x) r ⌝ }
+{
+    match curve {
+        Curve::Isochore(d) => raw_p(Kelvin(x), KgPerM3(d)),
+        Curve::Enthalpy(t) => raw_h(Kelvin(t), KgPerM3(x)),
+        Curve::Entropy(t) => raw_s(Kelvin(t), KgPerM3(x)),
+    }
+}
+
 // What is missing at x of the asked y.
 fn missing(curve: Curve, y: f64, x: f64) -> f64
     ensures { λ r. ⌜ Raw (missingAt curve y x) r ⌝ }
 {
-    match curve {
-        Curve::Isochore(d) => y - raw_p(Kelvin(x), KgPerM3(d)),
-        Curve::Enthalpy(t) => y - raw_h(Kelvin(t), KgPerM3(x)),
-        Curve::Entropy(t) => y - raw_s(Kelvin(t), KgPerM3(x)),
-    }
+    y - property(curve, x)
 }
 
 fn lifted(x: f64) -> f64
@@ -98,7 +106,29 @@ fn opened(s: Secant) -> SecantAnswer
     SecantAnswer::Lost
 }
 
-// The two start points, the one with the smaller miss as the newer.
+// Two places with their misses, the one with the smaller miss as the newer; no step yet.
+fn ordered(x1: f64, f1: f64, x2: f64, f2: f64) -> Secant
+    ensures { λ r. ⌜ r ≡ newerLast x1 f1 x2 f2 ⌝ }
+{
+    if size(f1) < size(f2) {
+        return Secant {
+            xl: x2,
+            fl: f2,
+            x: x1,
+            f: f1,
+            dx: 0.0,
+        };
+    }
+    Secant {
+        xl: x1,
+        fl: f1,
+        x: x2,
+        f: f2,
+        dx: 0.0,
+    }
+}
+
+// The two start points, and the first step from them.
 fn start(curve: Curve, y: f64, x1: f64, x2: f64) -> SecantAnswer
     ensures { λ r. ⌜ paperSecant r ≡ startOf curve y x1 x2 ⌝ }
 {
@@ -106,24 +136,26 @@ fn start(curve: Curve, y: f64, x1: f64, x2: f64) -> SecantAnswer
     let f2 = missing(curve, y, x2);
     if is_finite(f1) {
         if is_finite(f2) {
-            if size(f1) < size(f2) {
-                return opened(Secant {
-                    xl: x2,
-                    fl: f2,
-                    x: x1,
-                    f: f1,
-                    dx: 0.0,
-                });
-            }
-            return opened(Secant {
-                xl: x1,
-                fl: f1,
-                x: x2,
-                f: f2,
-                dx: 0.0,
-            });
+            return opened(ordered(x1, f1, x2, f2));
         }
         return SecantAnswer::Lost;
+    }
+    SecantAnswer::Lost
+}
+
+// The place x, to which the step dx led, with what is missing there.
+fn arrive(curve: Curve, y: f64, s: Secant, dx: f64, x: f64) -> SecantAnswer
+    ensures { λ r. ⌜ paperSecant r ≡ arrivedAt curve y s dx x ⌝ }
+{
+    let f = missing(curve, y, x);
+    if is_finite(f) {
+        return SecantAnswer::Value(Secant {
+            xl: s.x,
+            fl: s.f,
+            x,
+            f,
+            dx,
+        });
     }
     SecantAnswer::Lost
 }
@@ -136,29 +168,25 @@ fn trial(curve: Curve, y: f64, s: Secant, e: f64) -> SecantAnswer
     if is_finite(dx) {
         let next = s.x + dx;
         if is_finite(next) {
-            let x = lifted(next);
-            let f = missing(curve, y, x);
-            if is_finite(f) {
-                return SecantAnswer::Value(Secant {
-                    xl: s.x,
-                    fl: s.f,
-                    x,
-                    f,
-                    dx,
-                });
-            }
-            return SecantAnswer::Lost;
+            return arrive(curve, y, s, dx, lifted(next));
         }
         return SecantAnswer::Lost;
     }
     SecantAnswer::Lost
 }
 
+// Whether a step was long enough for another.
+fn far(dx: f64) -> bool
+    ensures { λ r. ⌜ r ≡ lt CONVERGENCE-PRECISION (sizeOf dx) ⌝ }
+{
+    CONVERGENCE_PRECISION < size(dx)
+}
+
 // A trial more, where one is asked for.
 fn try_next(curve: Curve, y: f64, s: Secant) -> Turn
     ensures { λ r. ⌜ paperTurn r ≡ turnOf curve y s ⌝ }
 {
-    if CONVERGENCE_PRECISION < size(s.dx) {
+    if far(s.dx) {
         if s.f == 0.0 {
             return Turn::Ended;
         }

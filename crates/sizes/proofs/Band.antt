@@ -2,18 +2,18 @@
 -- powers of two are normal f64s. For they are f64s, and rounding keeps the order. In order: a rounded fraction, the product, the quotient, and what the
 -- test of a base says. Assumes nothing.
 use mathlib.Core.Path.{_≡_, refl, sym, ap, _∙_, subst}
-use mathlib.Core.Bool.{Bool, true, false, not, _&&_, cond}
+use mathlib.Core.Bool.{Bool, true, false, _&&_, cond}
 use Prim.Native.Nat.{ℕ, zero, suc, _+_, _-_, _*_, _/_, _%_, _^_, _≤_, _<_, compare}
-use native.Mathlib.Nat.{le-trans, le-of-eq, le-of-lt, mul-one, one-mul, mul-comm, mul-pos, mul-le-mul, mul-mul-mul-comm, lt-irrefl, zero-mul}
+use native.Mathlib.Nat.{le-trans, le-of-eq, le-of-lt, mul-one, one-mul, mul-pos, mul-le-mul, mul-mul-mul-comm}
 use native.Mathlib.Omega.{arith}
-use lib.Dec.{T, ltb, eqb, leb}
+use lib.Dec.{T, ltb, leb}
 use lib.IntN.{ℤ, pos, negsuc}
-use lib.Pow.{pow-add, pow-pos, pow-lt, pow-mono}
+use lib.Pow.{pow-add, pow-pos, pow-lt}
 use lib.Ieee.{Float, nan, inf, fin, Format, binary64, prec, emax, low, up, down, size, nearest, odd, units, round, mul, div, le, unlike}
-use lib.Ieee.Fits.{round-is, up-pos, down-pos, and-l, and-r}
+use lib.Ieee.Fits.{down-pos, and-l, and-r}
 use lib.Ieee.Exact.{HasValue, round-exact}
 use lib.Ieee.Order.{round-mono}
-use lib.Ieee.Positive.{num, den, den-pos, positive, own-value, positive-of-value, values-of-le, between, le-trans-positive}
+use lib.Ieee.Positive.{num, den, positive, own-value, positive-of-value, values-of-le, between, le-trans-positive}
 use borrow.Author.Tests.{ne-eqb, leb-true, leb-false}
 use Rattle.common.specs.Outcome.{finite}
 use Rattle.sizes.specs.Usual.{usualBase}
@@ -151,17 +151,8 @@ inverse-band k nan h b = absurd (no (b .kept))
 inverse-band k (inf s) h b = absurd (no (b .kept))
 inverse-band k (fin t n d) h b =
     rw (ne-eqb n 0 (first-above n (up d) (down d) (2 ^ k) (down-pos d) (b .least)))
-    (round-band k (1 * 1 * down d) (n * up d * 1) (unlike false t) h (above (n * up d * 1) (down d) (2 ^ k) (down-pos d) (more (n * up d) (down d) (2 ^ k) (b .least)))
-    (turn (n * up d) (down d) (2 ^ k) (b .most)) (turn' (n * up d) (down d) (2 ^ k) (b .least)))
-  where
-    more : (N D K : ℕ) → D ≤ N * K → D ≤ N * 1 * K
-    more N D K h = omega arith
-
-    turn : (N D K : ℕ) → N ≤ K * D → N * 1 ≤ 1 * 1 * D * K
-    turn N D K h = omega arith
-
-    turn' : (N D K : ℕ) → D ≤ N * K → 1 * 1 * D ≤ K * (N * 1)
-    turn' N D K h = omega arith
+    (round-band k (1 * 1 * down d) (n * up d * 1) (unlike false t) h (above (n * up d * 1) (down d) (2 ^ k) (down-pos d) (omega (arith, b .least)))
+    (omega (arith, b .most)) (omega (arith, b .least)))
 
 -- ---- the test of a base
 
@@ -186,9 +177,6 @@ by-square s m e l h = record { kept = refl; least = least (leb C (A * 2 ^ 15)) r
     CC : 0 < C * C
     CC = mul-pos (down-pos e) (down-pos e)
 
-    small : 1 * 2 ^ 30 ≤ 1 * 2 ^ 28 → ⊥
-    small p = omega arith
-
     z-pos : T (positive z)
     z-pos = between bottom z top tt tt l h
 
@@ -201,7 +189,7 @@ by-square s m e l h = record { kept = refl; least = least (leb C (A * 2 ^ 15)) r
         let lo-is = lowest 30 (omega arith) in
         let lo-pos = positive-of-value lo 1 (2 ^ 30) lo-is (pow-pos 0) in
         let u = le-trans-positive bottom z lo tt z-pos lo-pos l (round-mono binary64 (A * A) (C * C) 1 (2 ^ 30) CC (pow-pos 30) t) in
-        absurd (small (values-of-le bottom lo 1 (2 ^ 28) 1 (2 ^ 30) tt lo-pos (refl, refl) lo-is u))
+        absurd (omega (arith, values-of-le bottom lo 1 (2 ^ 28) 1 (2 ^ 30) tt lo-pos (refl, refl) lo-is u))
 
     most : (b : Bool) → leb A (2 ^ 15 * C) ≡ b → A ≤ 2 ^ 15 * C
     most true p = leb-true A (2 ^ 15 * C) p
@@ -212,7 +200,7 @@ by-square s m e l h = record { kept = refl; least = least (leb C (A * 2 ^ 15)) r
         let hi-is = highest 30 (omega arith) in
         let hi-pos = positive-of-value hi (2 ^ 30) 1 hi-is (pow-pos 30) in
         let u = le-trans-positive hi z top hi-pos z-pos tt (round-mono binary64 (2 ^ 30) 1 (A * A) (C * C) (pow-pos 0) CC t) h in
-        absurd (small (values-of-le hi top (2 ^ 30) 1 (2 ^ 28) 1 hi-pos tt hi-is (refl, refl) u))
+        absurd (omega (arith, values-of-le hi top (2 ^ 30) 1 (2 ^ 28) 1 hi-pos tt hi-is (refl, refl) u))
 
 both-sides : (s : Bool) (m : ℕ) (e : ℤ) → let z = round binary64 false (m * up e * (m * up e)) (down e * down e) in T (le bottom z && le z top) → Band 15 (fin s m e)
 both-sides s m e t =

@@ -1,8 +1,10 @@
--- The contract admits one answer. The theorem is about the contract's own reading, `Reads.Post`. Assumes nothing.
+-- Each contract admits one answer. The theorems are about the contracts' own readings, `Reads.Post`. Assumes nothing.
 use mathlib.Core.Path.{sym, _∙_}
 use Rattle.common.proofs.Same.{One}
-use Rattle.sizes.proofs.usual.Kinds as usual-kinds
-use Rattle.sizes.proofs.usual.Reads as usual
+use Rattle.sizes.proofs as sizes
 
-pub usual-one : One 0 usual-kinds.ps usual-kinds.r usual.Post
+pub usual-one : One 0 sizes.usual.Kinds.ps sizes.usual.Kinds.r sizes.usual.Reads.Post
 usual-one κs a e x y p q = p ∙ sym q
+
+pub look-one : One 0 sizes.look.Kinds.ps sizes.look.Kinds.r sizes.look.Reads.Post
+look-one κs a e x y p q = p ∙ sym q

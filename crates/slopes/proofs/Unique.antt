@@ -2,18 +2,13 @@
 -- Assumes nothing.
 use mathlib.Core.Path.{sym, _∙_}
 use Rattle.common.proofs.Same.{One}
-use Rattle.slopes.proofs.fallen.Kinds as fallen-kinds
-use Rattle.slopes.proofs.fallen.Reads as fallen
-use Rattle.slopes.proofs.factor.Kinds as factor-kinds
-use Rattle.slopes.proofs.factor.Reads as factor
-use Rattle.slopes.proofs.slope_sum.Kinds as slope-sum-kinds
-use Rattle.slopes.proofs.slope_sum.Reads as slope-sum
+use Rattle.slopes.proofs as slopes
 
-pub fallen-one : One 0 fallen-kinds.ps fallen-kinds.r fallen.Post
+pub fallen-one : One 0 slopes.fallen.Kinds.ps slopes.fallen.Kinds.r slopes.fallen.Reads.Post
 fallen-one κs a e x y p q = p ∙ sym q
 
-pub factor-one : One 1 factor-kinds.ps factor-kinds.r factor.Post
+pub factor-one : One 1 slopes.factor.Kinds.ps slopes.factor.Kinds.r slopes.factor.Reads.Post
 factor-one κs a e x y p q = p ∙ sym q
 
-pub slope-sum-one : One 5 slope-sum-kinds.ps slope-sum-kinds.r slope-sum.Post
+pub slope-sum-one : One 5 slopes.slope_sum.Kinds.ps slopes.slope_sum.Kinds.r slopes.slope_sum.Reads.Post
 slope-sum-one κs a e x y p q = p .is ∙ sym (q .is)

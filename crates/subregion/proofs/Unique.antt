@@ -6,14 +6,7 @@ use Rattle.subregion.specs.Letter.{paperLetter}
 use Rattle.subregion.specs.declared.Letter.{Letter}
 use Rattle.subregion.specs.declared.LetterAnswer.{LetterAnswer}
 use Rattle.subregion.specs.declared.LetterAnswer.the-variants.{Value, Refused}
-use Rattle.subregion.proofs.ascii.Kinds as ascii-kinds
-use Rattle.subregion.proofs.ascii.Reads as ascii
-use Rattle.subregion.proofs.of_byte.Kinds as of-byte-kinds
-use Rattle.subregion.proofs.of_byte.Reads as of-byte
-use Rattle.subregion.proofs.letter_byte.Kinds as letter-byte-kinds
-use Rattle.subregion.proofs.letter_byte.Reads as letter-byte
-use Rattle.subregion.proofs.refusal_byte.Kinds as refusal-byte-kinds
-use Rattle.subregion.proofs.refusal_byte.Reads as refusal-byte
+use Rattle.subregion.proofs as subregion
 
 choiceOf : Outcome Letter → LetterAnswer
 choiceOf (value l) = Value l
@@ -27,14 +20,14 @@ choice-back (Refused k) = ap Refused (kind-number k)
 pub same-choice : (o : Outcome Letter) (c d : LetterAnswer) → paperLetter c ≡ o → paperLetter d ≡ o → c ≡ d
 same-choice = same paperLetter choiceOf choice-back
 
-pub ascii-one : One 0 ascii-kinds.ps ascii-kinds.r ascii.Post
+pub ascii-one : One 0 subregion.ascii.Kinds.ps subregion.ascii.Kinds.r subregion.ascii.Reads.Post
 ascii-one κs a e x y p q = p ∙ sym q
 
-pub of-byte-one : One 0 of-byte-kinds.ps of-byte-kinds.r of-byte.Post
+pub of-byte-one : One 0 subregion.of_byte.Kinds.ps subregion.of_byte.Kinds.r subregion.of_byte.Reads.Post
 of-byte-one κs a e x y p q = p ∙ sym q
 
-pub letter-byte-one : One 0 letter-byte-kinds.ps letter-byte-kinds.r letter-byte.Post
+pub letter-byte-one : One 0 subregion.letter_byte.Kinds.ps subregion.letter_byte.Kinds.r subregion.letter_byte.Reads.Post
 letter-byte-one κs a e x y p q = p ∙ sym q
 
-pub refusal-byte-one : One 0 refusal-byte-kinds.ps refusal-byte-kinds.r refusal-byte.Post
+pub refusal-byte-one : One 0 subregion.refusal_byte.Kinds.ps subregion.refusal_byte.Kinds.r subregion.refusal_byte.Reads.Post
 refusal-byte-one κs a e x y p q = p ∙ sym q

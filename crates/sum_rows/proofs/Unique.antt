@@ -1,10 +1,6 @@
 -- Each contract admits one answer. The theorems are about the contracts' own readings, `Reads.Post`. Assumes nothing.
 use mathlib.Core.Path.{sym, _∙_}
 use Rattle.common.proofs.Same.{One}
-use Rattle.sum_rows.proofs.shape.refused.Kinds as refused-kinds
-use Rattle.sum_rows.proofs.shape.refused.Reads as refused
-use Rattle.sum_rows.proofs.shape.one_number.Kinds as one-number-kinds
-use Rattle.sum_rows.proofs.shape.one_number.Reads as one-number
 use Rattle.sum_rows.proofs.shape.two_numbers.Kinds as two-numbers-kinds
 use Rattle.sum_rows.proofs.shape.two_numbers.Reads as two-numbers
 use Rattle.sum_rows.proofs.shape.four_numbers.Kinds as four-numbers-kinds
@@ -15,14 +11,8 @@ use Rattle.sum_rows.proofs.sums.work.Kinds as work-kinds
 use Rattle.sum_rows.proofs.sums.work.Reads as work
 use Rattle.sum_rows.proofs.table.on_table.Kinds as on-table-kinds
 use Rattle.sum_rows.proofs.table.on_table.Reads as on-table
-use Rattle.sum_rows.proofs.row.agrees.Kinds as agrees-kinds
-use Rattle.sum_rows.proofs.row.agrees.Reads as agrees
-
-pub refused-one : One 0 refused-kinds.ps refused-kinds.r refused.Post
-refused-one κs a e x y p q = p ∙ sym q
-
-pub one-number-one : One 0 one-number-kinds.ps one-number-kinds.r one-number.Post
-one-number-one κs a e x y p q = p ∙ sym q
+use Rattle.sum_rows.proofs.row.reply_to.Kinds as reply-to-kinds
+use Rattle.sum_rows.proofs.row.reply_to.Reads as reply-to
 
 pub two-numbers-one : One 0 two-numbers-kinds.ps two-numbers-kinds.r two-numbers.Post
 two-numbers-one κs a e x y p q = p ∙ sym q
@@ -39,5 +29,5 @@ work-one κs a e x y p q = p ∙ sym q
 pub on-table-one : One 1 on-table-kinds.ps on-table-kinds.r on-table.Post
 on-table-one κs a e x y p q = p ∙ sym q
 
-pub agrees-one : One 1 agrees-kinds.ps agrees-kinds.r agrees.Post
-agrees-one κs a e x y p q = p ∙ sym q
+pub reply-to-one : One 2 reply-to-kinds.ps reply-to-kinds.r reply-to.Post
+reply-to-one κs a e x y p q = p ∙ sym q

@@ -8,7 +8,7 @@ use lib.IntN.{ℤ}
 use lib.ListN.{getD, take}
 use lib.Ieee.{Float}
 use Rattle.buffer.specs.Bytes.{joined, intIn, floatIn}
-use Rattle.sum_rows.specs.declared.SumReply.{SumReply}
+use Rattle.reply.specs.declared.Reply.{Reply}
 use Rattle.sum_rows.specs.declared.Sum.{Sum}
 use Rattle.sum_rows.specs.Sums.{replyRule}
 
@@ -24,7 +24,7 @@ abbrev pub floats : List ℕ → ℕ → List Float
 floats table at = joined (λ k. floatIn table (at + 8 * k) ∷ []) 64
 
 -- a sum on a table
-unfoldable pub tableReply : Sum → Float → Float → List ℕ → SumReply
+unfoldable pub tableReply : Sum → Float → Float → List ℕ → Reply
 tableReply sum vi vj table =
     replyRule sum vi vj
     (take (rowsIn table 0) (wholes table 16))

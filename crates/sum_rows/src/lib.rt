@@ -1,17 +1,11 @@
-// The eleven table sums over rows of bytes, for the program that holds them to stored answers: which number names which sum and what each
-// comes to (`sums`), in its shape (`shape`), on a table of 1040 bytes (`table`), and rows of 56 bytes compared with that (`row`).
+// The eleven table sums over rows of bytes, for the program that writes what they come to: which number names which sum and what each
+// comes to (`sums`), in its shape (`shape`), on a table of 1040 bytes (`table`), for a row of 24 bytes (`row`).
 mod row;
 mod shape;
 mod sums;
 mod table;
 
-pub use row::agrees;
-
-// What a sum came to: the refusal's number or 0, and up to four numbers.
-pub struct SumReply {
-    pub refusal: u8,
-    pub numbers: [f64; 4],
-}
+pub use row::reply_to;
 
 // The sums, in the order of their numbers and with the Rust's names. Unnamed stands for a number that names none.
 pub enum Sum {

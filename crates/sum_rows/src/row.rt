@@ -1,46 +1,30 @@
-// A stored row of 56 bytes, held to what its sum comes to.
-use crate::SumReply;
+// A row of 24 bytes: which table and which sum, then from byte 8 on vi and vj.
+use crate::sums::UNKNOWN;
 use crate::sums::sum_of;
 use crate::table::on_table;
 use buffer::byte_at;
 use buffer::float_at;
-use buffer::put_float;
+use reply::Reply;
+use reply::refused;
 ghost use mathlib.Core.Path.{_≡_};
-ghost use Rattle.sum_rows.specs.Row.{storedIn, rowAgrees};
+ghost use Rattle.sum_rows.specs.Row.{rowReply};
 
 // A table's bytes.
 const TABLE: usize = 1040;
 
-// Whether a row stores this reply, bit by bit: with the reply put in, it is the row that it was.
-fn stores(row: [u8; 56], r: SumReply) -> bool
-    ensures { λ b. ⌜ b ≡ storedIn row r ⌝ }
+// What a row's sum comes to on its table, which is one of those that are lent.
+pub fn reply_to(row: &[u8], tables: &[u8]) -> Reply
+    ensures { λ r. ⌜ r ≡ rowReply (now (row .entry)) (now (tables .entry)) ⌝ }
 {
-    let numbers = r.numbers;
-    let mut answered = row;
-    answered[2] = r.refusal;
-    put_float(&mut answered, 24, numbers[0]);
-    put_float(&mut answered, 32, numbers[1]);
-    put_float(&mut answered, 40, numbers[2]);
-    put_float(&mut answered, 48, numbers[3]);
-    check::same(&answered, &row)
-}
-
-// Whether a row has the answer of its sum on its table. A row of a table that does not exist has not.
-pub fn agrees(row: [u8; 56], tables: &[u8]) -> bool
-    ensures { λ b. ⌜ b ≡ rowAgrees row (now (tables .entry)) ⌝ }
-{
-    let at = TABLE * (byte_at(&row, 0) as usize);
+    let at = TABLE * (byte_at(row, 0) as usize);
     let next = at + TABLE;
     if next > tables.len() {
-        return false;
+        return refused(UNKNOWN);
     }
-    stores(
-        row,
-        on_table(
-            sum_of(byte_at(&row, 1)),
-            float_at(&row, 8),
-            float_at(&row, 16),
-            &tables[at..next],
-        ),
+    on_table(
+        sum_of(byte_at(row, 1)),
+        float_at(row, 8),
+        float_at(row, 16),
+        &tables[at..next],
     )
 }

@@ -1,54 +1,36 @@
-// What a sum came to, in its shape: a refusal, one number, two or four.
-use crate::SumReply;
-use common::Answer;
+// What a sum of two or four numbers came to, in its shape. One of a single number has that of a call for one number.
 use common::number;
 use polynomial::FourAnswer;
 use polynomial::PairAnswer;
+use reply::Reply;
+use reply::refused;
 ghost use mathlib.Core.Path.{_≡_};
-ghost use Rattle.common.specs.Answer.{paper};
 ghost use Rattle.polynomial.specs.Columns.{paperPair, paperFour};
-ghost use Rattle.sum_rows.specs.Shape.{refusedBy, oneReply, twoReply, fourReply};
+ghost use Rattle.sum_rows.specs.Shape.{twoReply, fourReply};
 
-pub fn refused(k: u8) -> SumReply
-    ensures { λ r. ⌜ r ≡ refusedBy k ⌝ }
-{
-    SumReply {
-        refusal: k,
-        numbers: [0.0; 4],
-    }
-}
-
-pub fn one_number(a: Answer) -> SumReply
-    ensures { λ r. ⌜ r ≡ oneReply (paper a) ⌝ }
-{
-    match a {
-        Answer::Value(x) => SumReply {
-            refusal: 0,
-            numbers: [x, 0.0, 0.0, 0.0],
-        },
-        Answer::Refused(k) => refused(number(k)),
-    }
-}
-
-pub fn two_numbers(a: PairAnswer) -> SumReply
+pub fn two_numbers(a: PairAnswer) -> Reply
     ensures { λ r. ⌜ r ≡ twoReply (paperPair a) ⌝ }
 {
     match a {
-        PairAnswer::Value(p) => SumReply {
+        PairAnswer::Value(p) => Reply {
             refusal: 0,
-            numbers: [p.first, p.second, 0.0, 0.0],
+            letter: 0,
+            beside: 0,
+            numbers: [p.first, p.second, 0.0, 0.0, 0.0, 0.0, 0.0, 0.0, 0.0, 0.0],
         },
         PairAnswer::Refused(k) => refused(number(k)),
     }
 }
 
-pub fn four_numbers(a: FourAnswer) -> SumReply
+pub fn four_numbers(a: FourAnswer) -> Reply
     ensures { λ r. ⌜ r ≡ fourReply (paperFour a) ⌝ }
 {
     match a {
-        FourAnswer::Value(p) => SumReply {
+        FourAnswer::Value(p) => Reply {
             refusal: 0,
-            numbers: [p.i, p.ii, p.ij, p.jj],
+            letter: 0,
+            beside: 0,
+            numbers: [p.i, p.ii, p.ij, p.jj, 0.0, 0.0, 0.0, 0.0, 0.0, 0.0],
         },
         FourAnswer::Refused(k) => refused(number(k)),
     }

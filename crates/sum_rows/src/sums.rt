@@ -1,15 +1,15 @@
 // Which number names which sum, and what each comes to on a table that is lent by its columns.
 use crate::Sum;
-use crate::SumReply;
 use crate::shape::four_numbers;
-use crate::shape::one_number;
-use crate::shape::refused;
 use crate::shape::two_numbers;
+use reply::Reply;
+use reply::number_reply;
+use reply::refused;
 ghost use mathlib.Core.Path.{_≡_};
 ghost use Rattle.sum_rows.specs.Sums.{sumOf, replyRule};
 
-// The refusal of a sum that does not exist.
-const UNKNOWN: u8 = 255;
+// The refusal of a sum or a table that does not exist.
+pub const UNKNOWN: u8 = 255;
 
 pub fn sum_of(number: u8) -> Sum
     ensures { λ r. ⌜ r ≡ sumOf number ⌝ }
@@ -34,17 +34,17 @@ pub fn sum_of(number: u8) -> Sum
     Sum::Unnamed
 }
 
-pub fn work(sum: Sum, vi: f64, vj: f64, is: &[i32], js: &[i32], ns: &[f64]) -> SumReply
+pub fn work(sum: Sum, vi: f64, vj: f64, is: &[i32], js: &[i32], ns: &[f64]) -> Reply
     ensures { λ r. ⌜ r ≡ replyRule sum vi vj (now (is .entry)) (now (js .entry)) (now (ns .entry)) ⌝ }
 {
     match sum {
         Sum::Unnamed => refused(UNKNOWN),
-        Sum::Poly => one_number(polynomial::poly_powi(vi, vj, is, js, ns)),
-        Sum::PolyI => one_number(polynomial::poly_i_powi(vi, vj, is, js, ns)),
-        Sum::PolyIi => one_number(polynomial::poly_ii_powi(vi, vj, is, js, ns)),
-        Sum::PolyIj => one_number(polynomial::poly_ij_powi(vi, vj, is, js, ns)),
-        Sum::PolyJ => one_number(polynomial::poly_j_powi(vi, vj, is, js, ns)),
-        Sum::PolyJj => one_number(polynomial::poly_jj_powi(vi, vj, is, js, ns)),
+        Sum::Poly => number_reply(polynomial::poly_powi(vi, vj, is, js, ns)),
+        Sum::PolyI => number_reply(polynomial::poly_i_powi(vi, vj, is, js, ns)),
+        Sum::PolyIi => number_reply(polynomial::poly_ii_powi(vi, vj, is, js, ns)),
+        Sum::PolyIj => number_reply(polynomial::poly_ij_powi(vi, vj, is, js, ns)),
+        Sum::PolyJ => number_reply(polynomial::poly_j_powi(vi, vj, is, js, ns)),
+        Sum::PolyJj => number_reply(polynomial::poly_jj_powi(vi, vj, is, js, ns)),
         Sum::Polys0J => two_numbers(polynomial::polys_0_j_powi(vi, vj, is, js, ns)),
         Sum::PolysIJ => two_numbers(polynomial::polys_i_j_powi(vi, vj, is, js, ns)),
         Sum::PolysIIj => two_numbers(polynomial::polys_i_ij_powi(vi, vj, is, js, ns)),

@@ -1,10 +1,10 @@
 // A sum on a stored table of 1040 bytes.
 use crate::Sum;
-use crate::SumReply;
 use crate::sums::work;
 use buffer::byte_at;
 use buffer::float_at;
 use buffer::int_at;
+use reply::Reply;
 ghost use mathlib.Core.Path.{_≡_};
 ghost use Prim.Native.Nat.{_≤_};
 ghost use Rattle.sum_rows.specs.Table.{rowsIn, wholes, floats, tableReply};
@@ -45,7 +45,7 @@ fn floats_from(table: &[u8], at: usize) -> [f64; 64]
     column
 }
 
-pub fn on_table(sum: Sum, vi: f64, vj: f64, table: &[u8]) -> SumReply
+pub fn on_table(sum: Sum, vi: f64, vj: f64, table: &[u8]) -> Reply
     ensures { λ r. ⌜ r ≡ tableReply sum vi vj (now (table .entry)) ⌝ }
 {
     let is = wholes_from(table, 16);

@@ -8,7 +8,7 @@ use powers::fill_bare;
 ghost use mathlib.Core.Path.{_≡_};
 ghost use Rattle.common.specs.Outcome.{orNan};
 ghost use Rattle.algo.specs.Table.{sumRule, term};
-ghost use Rattle.tables_a_g.specs.Printed.{table3a, table3b, table3c, table3d, table3e, table3f, table3g};
+ghost use Rattle.printed.specs.Volumes.{table3a, table3b, table3c, table3d, table3e, table3f, table3g};
 
 // v3a(p,T)
 const I3A: [i32; 30] = [

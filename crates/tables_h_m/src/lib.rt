@@ -9,7 +9,7 @@ ghost use mathlib.Core.Path.{_≡_};
 ghost use Rattle.common.specs.Outcome.{orNan};
 ghost use Rattle.algo.specs.Table.{sumRule, term};
 ghost use lib.ListN.{take};
-ghost use Rattle.tables_h_m.specs.Printed.{table3h, table3i, table3j, table3k, table3l, table3m};
+ghost use Rattle.printed.specs.Volumes.{table3h, table3i, table3j, table3k, table3l, table3m};
 
 // v3h(p,T)
 const I3H: [i32; 29] = [

@@ -8,7 +8,7 @@ use powers::fill_bare;
 ghost use mathlib.Core.Path.{_≡_};
 ghost use Rattle.common.specs.Outcome.{orNan};
 ghost use Rattle.algo.specs.Table.{sumRule, term};
-ghost use Rattle.tables_n_t.specs.Printed.{table3n, table3o, table3p, table3q, table3r, table3s, table3t};
+ghost use Rattle.printed.specs.Volumes.{table3n, table3o, table3p, table3q, table3r, table3s, table3t};
 
 // v3n(p,T)
 const I3N: [i32; 39] = [

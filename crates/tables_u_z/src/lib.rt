@@ -8,7 +8,7 @@ use powers::fill_bare;
 ghost use mathlib.Core.Path.{_≡_};
 ghost use Rattle.common.specs.Outcome.{orNan};
 ghost use Rattle.algo.specs.Table.{sumRule, term};
-ghost use Rattle.tables_u_z.specs.Printed.{table3u, table3v, table3w, table3x, table3y, table3z};
+ghost use Rattle.printed.specs.Volumes.{table3u, table3v, table3w, table3x, table3y, table3z};
 
 // v3u(p,T)
 const I3U: [i32; 38] = [

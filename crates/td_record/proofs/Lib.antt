@@ -1,3 +1,2 @@
 pub mod RecordSteps
-pub mod Points
 pub mod Unique

@@ -1,20 +1,17 @@
 -- A record whose fields are worked with no check and tested once is the record with a check at each step.
-use Rattle.common.specs.Formula.{lostOr}
 use mathlib.Core.Path.{_≡_, refl}
 use mathlib.Core.Bool.{true, cond}
-use Prim.Native.Nat.{ℕ}
 use lib.Ieee.{Float, nan, inf, fin}
 use Rattle.common.specs.Outcome.{Outcome, value, refused, finite, check, then}
-use Rattle.common.proofs.Laws.{Lost, check-kept, check-lost}
-use Rattle.common.specs.Formula.{Raw}
+use Rattle.common.specs.Formula.{lostOr, Raw}
 use Rattle.helmholtz.specs.Number.{Number}
 use Rattle.properties.specs.Together.{Td2cp-w}
 use Rattle.properties.proofs.Together.{cp-number, w-number}
-use Rattle.td_record.specs.Steps.{pressureFrom, recordWith, recordAfter, recordSteps}
+use Rattle.td_record.specs.Steps.{recordWith, recordAfter, recordSteps}
 use Rattle.td_record.specs.declared.Pressure.{Pressure}
 
+-- a is whole where x and what follows it are finite
 module _ {A : Type 0} (f : Float → Outcome A) (a : A) where
-  -- a is whole where x and what follows it are finite
   gate : (x rest : Float) → (finite x ≡ true → f x ≡ cond (finite rest) (value a) (refused 5)) → then (check x) f ≡ cond (finite (lostOr x rest)) (value a) (refused 5)
   gate nan rest h = refl
   gate (inf s) rest h = refl
@@ -30,21 +27,6 @@ module _ {A : Type 0} (f : Float → Outcome A) (a : A) where
 
   pub at-last : {o : Outcome Float} {x : Float} → Raw o x → f x ≡ value a → then o f ≡ cond (finite x) (value a) (refused 5)
   at-last {x} w h = rw (w .is) (last x h)
-
--- ---- the steps, by what v and p come to
-
-module _ (t d v : Float) (source : Pressure) where
-  pub steps-value : (p : Float) → finite v ≡ true → pressureFrom source (check t) (check d) ≡ value p → recordSteps t d v source ≡ recordAfter t d v p
-  unfolding recordSteps
-  steps-value p f e = rw (check-kept v f, e)
-
-  pub steps-refused : (k : ℕ) → finite v ≡ true → pressureFrom source (check t) (check d) ≡ refused k → recordSteps t d v source ≡ refused k
-  unfolding recordSteps
-  steps-refused k f e = rw (check-kept v f, e)
-
-  pub steps-lost : Lost v → recordSteps t d v source ≡ refused 5
-  unfolding recordSteps
-  steps-lost l = rw (check-lost v l)
 
 -- v is worked first
 pub steps-after : (t d v : Float) (source : Pressure) (o : Outcome Float) → Raw o v → then o (λ v. recordSteps t d v source) ≡ recordSteps t d v source

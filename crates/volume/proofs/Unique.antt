@@ -1,5 +1,5 @@
--- Each contract admits one answer, and what was found is determined by the paper's number and values. Assumes nothing.
-use mathlib.Core.Path.{_≡_, refl, sym, ap, _∙_}
+-- Each contract admits one answer, and what was found is determined by the paper's number and values.
+use mathlib.Core.Path.{_≡_, refl, ap}
 use Rattle.common.specs.Outcome.{Outcome, value, refused}
 use Rattle.common.proofs.Same.{One, same, same-answer, kindOf, kind-number}
 use Rattle.volume.specs.Volumes.{State, paperState, paperOrigin}

@@ -1,4 +1,4 @@
--- `algo::checked_once` meets its contract. Assumes nothing.
+-- `algo::checked_once` meets its contract: a finite number stays, any other is a NaN. Assumes nothing.
 use mathlib.Core.Path.{_∙_, ap}
 use borrow.Author.Needs.{needs}
 use Rattle.common.specs.Outcome.{orNan}

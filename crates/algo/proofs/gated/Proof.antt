@@ -1,41 +1,40 @@
--- `algo::gated` meets its contract: 0.0 / 0.0 is a NaN. Assumes nothing.
+-- `algo::gated` meets its contract: each test says that its number is kept or lost, and 0.0 / 0.0 is a NaN. Assumes nothing.
+use mathlib.Core.Path.{_≡_, sym, _∙_}
 use lib.Ieee.{div, ofBits}
 use borrow.Author.Needs.{needs}
+use Rattle.common.specs.Outcome.{value, check}
 use Rattle.common.proofs.Laws.{check-kept, check-lost}
 use Rattle.algo.proofs.gated.Statement.{statement}
 use Rattle.algo.proofs.gated.Tie as tie
 
+vi-kept : (c : tie.Then1) → let x = c .before .before .args .vi in check x ≡ value x
+vi-kept c = check-kept (c .before .before .args .vi) (sym (c .before .is-finite .ensures) ∙ c .if1 .taken)
+
+vj-kept : (c : tie.Then2) → let x = c .before .before .before .before .args .vj in check x ≡ value x
+vj-kept c = check-kept (c .before .before .before .before .args .vj) (sym (c .before .is-finite2 .ensures) ∙ c .if2 .taken)
+
 returns : tie.Need-returns
 returns c =
-    let a = c .before .before .before .before .before .before .args in
-    rw (check-kept (a .vi) (cc), check-kept (a .vj) (cc), check-kept (a .x) (cc))
+    let j = c .before .before in
+    let i = j .before .before in
+    rw (vi-kept i, vj-kept j, check-kept (i .before .before .args .x) (sym (c .before .is-finite3 .ensures) ∙ c .if3 .taken))
 
 returns-2 : tie.Need-returns-2
 unfolding div ofBits
 returns-2 c =
-    let a = c .before .before .before .before .before .before .args in
-    rw (check-kept (a .vi) (cc), check-kept (a .vj) (cc), check-lost (a .x) (cc))
+    let j = c .before .before in
+    let i = j .before .before in
+    rw (vi-kept i, vj-kept j, check-lost (i .before .before .args .x) (sym (c .before .is-finite3 .ensures) ∙ c .if3 .left))
 
 returns-3 : tie.Need-returns-3
 unfolding div ofBits
 returns-3 c =
-    let a = c .before .before .before .before .args in
-    rw (check-kept (a .vi) (cc), check-lost (a .vj) (cc))
+    let i = c .before .before in
+    rw (vi-kept i, check-lost (i .before .before .args .vj) (sym (c .before .is-finite2 .ensures) ∙ c .if2 .left))
 
 returns-4 : tie.Need-returns-4
 unfolding div ofBits
-returns-4 c =
-    let a = c .before .before .args in
-    rw (check-lost (a .vi) (cc))
+returns-4 c = rw (check-lost (c .before .before .args .vi) (sym (c .before .is-finite .ensures) ∙ c .if1 .left))
 
 pub gated-spec : {M : Type 1} → statement M
-gated-spec =
-    tie.close
-    (tie.spec
-    (λ c κs. search needs)
-    (λ c κs. search needs)
-    (λ c κs. search needs)
-    returns
-    returns-2
-    returns-3
-    returns-4)
+gated-spec = tie.close (tie.spec (λ c κs. search needs) (λ c κs. search needs) (λ c κs. search needs) returns returns-2 returns-3 returns-4)

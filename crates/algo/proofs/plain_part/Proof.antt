@@ -28,30 +28,6 @@ at-end k end p q = omega arith
 loop-holds : tie.Need-loop-holds Inv-loop μ-loop
 loop-holds c = (omega arith, refl)
 
-mul-sum : tie.Need-mul-sum Inv-loop μ-loop
-mul-sum c = omega arith
-
-shared-slice-read-sum : tie.Need-shared-slice-read-sum Inv-loop μ-loop
-shared-slice-read-sum c = omega arith
-
-mul-power-in : tie.Need-mul-power-in Inv-loop μ-loop
-mul-power-in c = omega arith
-
-shared-slice-copy-out-power-in : tie.Need-shared-slice-copy-out-power-in Inv-loop μ-loop
-shared-slice-copy-out-power-in c = omega arith
-
-mul-power-in-2 : tie.Need-mul-power-in-2 Inv-loop μ-loop
-mul-power-in-2 c = omega arith
-
-shared-slice-copy-out-power-in-2 : tie.Need-shared-slice-copy-out-power-in-2 Inv-loop μ-loop
-shared-slice-copy-out-power-in-2 c = omega arith
-
-add-k : tie.Need-add-k Inv-loop μ-loop
-add-k c = omega arith
-
-loop-less : tie.Need-loop-less Inv-loop μ-loop
-loop-less c = omega arith
-
 cast-power-in : tie.Need-cast-power-in Inv-loop μ-loop
 cast-power-in c =
     let l = c .before .before in
@@ -81,22 +57,6 @@ returns c =
 
 pub plain-part-spec : {M : Type 1} → statement M
 plain-part-spec =
-    tie.close
-    (tie.spec
-    Inv-loop
-    μ-loop
-    loop-holds
-    mul-sum
-    shared-slice-read-sum
-    mul-power-in
-    shared-slice-copy-out-power-in
-    cast-power-in
-    (λ c κs. search needs)
-    mul-power-in-2
-    shared-slice-copy-out-power-in-2
-    cast-power-in-2
-    (λ c κs. search needs)
-    add-k
-    loop-less
-    loop-again
-    returns)
+    tie.close (tie.spec Inv-loop μ-loop loop-holds (λ c. omega arith) (λ c. omega arith) (λ c. omega arith) (λ c. omega arith) cast-power-in
+    (λ c κs. search needs) (λ c. omega arith) (λ c. omega arith) cast-power-in-2 (λ c κs. search needs) (λ c. omega arith) (λ c. omega arith)
+    loop-again returns)

@@ -1,7 +1,7 @@
 -- `algo::plain_sum` meets its contract. The invariant: n is the shortest column's length, and what is left of the rows, added to the sum so far,
 -- is the whole sum.
 use mathlib.Core.Path.{_≡_, refl, sym, _∙_}
-use Prim.Native.Nat.{ℕ, _+_, _-_, _<_, _≤_}
+use Prim.Native.Nat.{ℕ, _+_, _-_, _<_, _≤_, min}
 use native.Mathlib.Omega.{arith}
 use lib.Ieee.{ofBits}
 use lib.ListN.{length}
@@ -24,7 +24,7 @@ abbrev μ-loop : tie.MeasureT-loop
 μ-loop wi wj is js ns n sum₀ start₀ sum start = n - start
 
 -- a part's end
-part : (n k e : ℕ) → k ≤ n → e ≡ n - (n - (k + 11)) → (k ≤ e) × (e ≤ n)
+part : (n k e : ℕ) → k ≤ n → e ≡ min n (k + 11) → (k ≤ e) × (e ≤ n)
 part n k e l h = (omega arith, omega arith)
 
 further : (a b c : ℕ) → a ≤ b → b ≤ c → a ≤ c
@@ -37,18 +37,12 @@ loop-holds : tie.Need-loop-holds Inv-loop μ-loop
 unfolding ofBits
 loop-holds c = (shortest _ _ _ _ _ (c .before .least .ensures) (c .least2 .ensures), refl)
 
-add-least : tie.Need-add-least Inv-loop μ-loop
-add-least c = omega (arith, c .before .loop .inv .0 .first)
-
 plain-part-requires : tie.Need-plain-part-requires Inv-loop μ-loop
 plain-part-requires c κs =
     let l = c .before .before in
     let z = l .loop .inv .0 in
     let p = part _ (l .loop .start) (c .least3 .result) (omega arith) (c .least3 .ensures) in
     (p .0, further _ _ _ (p .1) (z .first), further _ _ _ (p .1) (z .second), further _ _ _ (p .1) (z .third))
-
-add-start : tie.Need-add-start Inv-loop μ-loop
-add-start c = omega (arith, c .before .before .before .loop .inv .0 .first)
 
 loop-less : tie.Need-loop-less Inv-loop μ-loop
 loop-less c = less _ _ (omega arith)
@@ -77,17 +71,5 @@ returns c =
 
 pub plain-sum-spec : {M : Type 1} → statement M
 plain-sum-spec =
-    tie.close
-    (tie.spec
-    Inv-loop
-    μ-loop
-    (λ c κs. search needs)
-    (λ c κs. search needs)
-    loop-holds
-    add-least
-    (λ c κs. search needs)
-    plain-part-requires
-    add-start
-    loop-less
-    loop-again
-    returns)
+    tie.close (tie.spec Inv-loop μ-loop (λ c κs. search needs) (λ c κs. search needs) loop-holds (λ c. omega (arith, c .before .loop .inv .0 .first))
+    (λ c κs. search needs) plain-part-requires (λ c. omega (arith, c .before .before .before .loop .inv .0 .first)) loop-less loop-again returns)

@@ -1,9 +1,9 @@
 -- `border::beside` meets its contract: by squares, or by the root. Assumes nothing.
-use mathlib.Core.Path.{sym, ap, _∙_}
-use mathlib.Core.Bool.{true, false}
-use lib.Ieee.{Float, binary64, add, lt, ofBits, round}
+use mathlib.Core.Path.{ap, _∙_}
+use mathlib.Core.Bool.{Bool, cond}
+use lib.Ieee.{ofBits, round}
+use Rattle.common.specs.Outcome.{value, refused}
 use Rattle.common.specs.Decimal.{scaled, decimal, plus}
-use Rattle.border.proofs.Never.{N4}
 use Rattle.border.proofs.Squares as squares
 use borrow.Author.Needs.{needs}
 use Rattle.border.proofs.beside.Statement.{statement}
@@ -24,14 +24,8 @@ returns-2 c =
 returns-3 : tie.Need-returns-3
 unfolding plus scaled round ofBits
 returns-3 c =
-    let s = c .before .before .before .before in
-    squares.by-root (s .args .p) (s .args .t) (s .pre) true (ap (λ (x : Float). lt (add binary64 N4 x) (s .args .t)) (sym (c .before .raw-root .ensures)) ∙ c .if5 .taken)
-
-returns-4 : tie.Need-returns-4
-unfolding plus scaled round ofBits
-returns-4 c =
-    let s = c .before .before .before .before in
-    squares.by-root (s .args .p) (s .args .t) (s .pre) false (ap (λ (x : Float). lt (add binary64 N4 x) (s .args .t)) (sym (c .before .raw-root .ensures)) ∙ c .if5 .left)
+    let s = c .before .before .before in
+    ap (λ (r : Bool). cond r (value tt) (refused 8)) (c .by-root .ensures) ∙ squares.by-root (s .args .p) (s .args .t) (s .pre)
 
 pub beside-spec : {M : Type 1} → statement M
-beside-spec = tie.close (tie.spec returns returns-2 (λ c κs. search needs) returns-3 returns-4)
+beside-spec = tie.close (tie.spec returns returns-2 (λ c κs. search needs) returns-3)

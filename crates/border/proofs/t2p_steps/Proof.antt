@@ -5,7 +5,6 @@ use Rattle.common.specs.Outcome.{orNan}
 use Rattle.common.specs.Decimal.{scaled, plus, minus}
 use Rattle.common.proofs.Formulas.{raw-value, raw-first, raw-times, _+ʳ_}
 use Rattle.border.specs.Border.{B23-T2p, n1, n2, n3}
-use borrow.Author.Needs.{needs}
 use Rattle.border.proofs.t2p_steps.Statement.{statement}
 use Rattle.border.proofs.t2p_steps.Tie as tie
 

@@ -1,4 +1,4 @@
--- `buffer::byte_at` meets its contract. Assumes nothing.
+-- `buffer::byte_at` meets its contract: 0 past the end. Assumes nothing.
 use mathlib.Core.Path.{sym}
 use lib.ListN.{List·getD-eq-default}
 use borrow.Author.Needs.{needs}

@@ -1,9 +1,5 @@
--- `buffer::float_at` meets its contract. Assumes nothing.
-use mathlib.Core.Path.{_≡_, ap, _∙_}
-use mathlib.Core.Bool.{true, false}
-use Prim.Native.Nat.{_+_}
-use lib.Dec.{leb}
-use lib.ListN.{length}
+-- `buffer::float_at` meets its contract: the float of eight bytes that lie there. Assumes nothing.
+use mathlib.Core.Path.{sym, ap, _∙_}
 use lib.Ieee.{binary64, ofBits}
 use borrow.Author.Needs.{needs}
 use borrow.Author.Tests.{leb-true}
@@ -12,21 +8,17 @@ use Rattle.buffer.proofs.float_at.Statement.{statement}
 use Rattle.buffer.proofs.float_at.Tie as tie
 
 word-at-requires : tie.Need-word-at-requires
-word-at-requires c κs = leb-true _ _ (cc)
+word-at-requires c κs = leb-true _ _ (sym (c .before .lies .ensures) ∙ c .if1 .taken)
 
 returns : tie.Need-returns
 unfolding floatAt
 returns c =
-    let a = c .before .before .before .before .before .args in
-    let h : leb (a .at + 8) (length (a .s .now)) ≡ true = cc in
-    rw h (c .float-of .ensures ∙ ap (ofBits binary64) (c .before .word-at .ensures))
+    let d = c .before .before in
+    rw (← d .before .lies .ensures, d .if1 .taken) (c .float-of .ensures ∙ ap (ofBits binary64) (c .before .word-at .ensures))
 
 returns-2 : tie.Need-returns-2
 unfolding ofBits
-returns-2 c =
-    let a = c .before .before .before .args in
-    let h : leb (a .at + 8) (length (a .s .now)) ≡ false = cc in
-    rw h
+returns-2 c = rw (← c .before .lies .ensures, c .if1 .left)
 
 pub float-at-spec : {M : Type 1} → statement M
 float-at-spec = tie.close (tie.spec (λ c κs. search needs) word-at-requires (λ c κs. search needs) returns returns-2)

@@ -1,4 +1,4 @@
--- `buffer::float_of` meets its contract. Assumes nothing.
+-- `buffer::float_of` meets its contract: the number of its bits. Assumes nothing.
 use mathlib.Core.Path.{sym, subst, _∙_}
 use mathlib.Core.Bool.{Bool, not}
 use lib.Dec.{T}

@@ -1,4 +1,4 @@
--- `buffer::lies` meets its contract. Assumes nothing.
+-- `buffer::lies` meets its contract: a sum that would wrap is tested by a difference. Assumes nothing.
 use mathlib.Core.Path.{sym}
 use Prim.Native.Nat.{_+_}
 use native.Mathlib.Omega.{arith}

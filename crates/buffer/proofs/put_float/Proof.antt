@@ -1,4 +1,4 @@
--- `buffer::put_float` meets its contract. Assumes nothing.
+-- `buffer::put_float` meets its contract: the eight bytes of its bits. Assumes nothing.
 use mathlib.Core.Path.{ap, _∙_}
 use Prim.Native.Nat.{ℕ}
 use Rattle.buffer.specs.Bytes.{placed, eight}

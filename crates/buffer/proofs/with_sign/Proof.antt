@@ -1,4 +1,4 @@
--- `buffer::with_sign` meets its contract. Assumes nothing.
+-- `buffer::with_sign` meets its contract: below 2^31 the number itself, above it less 2^32. Assumes nothing.
 use mathlib.Core.Path.{_≡_}
 use Prim.Native.Nat.{ℕ, suc, _-_, _^_, _<_, _≤_}
 use native.Mathlib.Omega.{arith}
@@ -48,5 +48,4 @@ returns-2 c =
     rw (less n h k, toZ-ofZ w64 (negsuc (4294967296 - suc n)) (less-wide n h k), toZ-ofZ w32 (negsuc (4294967296 - suc n)) (less-fits n h k), le-ltb n (2 ^ 31) h)
 
 pub with-sign-spec : {M : Type 1} → statement M
-with-sign-spec =
-    tie.close (tie.spec (λ c. search needs) (λ c. search needs) sub-result cast-result-3 returns returns-2)
+with-sign-spec = tie.close (tie.spec (λ c. search needs) (λ c. search needs) sub-result cast-result-3 returns returns-2)

@@ -20,7 +20,5 @@ returns-2 c = sym (turned-away (c .before .before .before .check-Td .ensures) _ 
 
 pub check-h-spec : {M : Type 1} → statement M
 check-h-spec =
-    tie.close
-    (tie.spec
-    (λ c κs. search needs) (λ c. search needs) (λ c κs. search needs) (λ c κs. search needs) (λ c κs. search needs) (λ c. search needs)
-    returns returns-2)
+    tie.close (tie.spec (λ c κs. search needs) (λ c. search needs) (λ c κs. search needs) (λ c κs. search needs) (λ c κs. search needs)
+    (λ c. search needs) returns returns-2)

@@ -20,7 +20,5 @@ returns-2 c = sym (turned-away (c .before .before .before .check-Td .ensures) _ 
 
 pub check-s-spec : {M : Type 1} → statement M
 check-s-spec =
-    tie.close
-    (tie.spec
-    (λ c κs. search needs) (λ c. search needs) (λ c κs. search needs) (λ c κs. search needs) (λ c κs. search needs) (λ c. search needs)
-    returns returns-2)
+    tie.close (tie.spec (λ c κs. search needs) (λ c. search needs) (λ c κs. search needs) (λ c κs. search needs) (λ c κs. search needs)
+    (λ c. search needs) returns returns-2)

@@ -1,61 +1,46 @@
--- `common::check_pair` meets its contract: each return rewrites the rule with the tests that led there. Assumes nothing.
-use mathlib.Core.Path.{_≡_}
-use mathlib.Core.Bool.{true, false}
+-- `common::check_pair` meets its contract: what each test says where it is passed and where it is not, and each return rewrites the rule with the tests
+-- that led there. Assumes nothing.
+use mathlib.Core.Path.{_≡_, sym, _∙_}
+use mathlib.Core.Bool.{true}
 use borrow.Author.Needs.{needs}
 use Rattle.common.specs.Outcome.{finite}
 use Rattle.common.specs.Range.{within}
 use Rattle.common.proofs.check_pair.Statement.{statement}
 use Rattle.common.proofs.check_pair.Tie as tie
 
+x-finite : (c : tie.Then1) → finite (c .before .before .args .x) ≡ true
+x-finite c = sym (c .before .is-finite .ensures) ∙ c .if1 .taken
+
+y-finite : (c : tie.Then2) → finite (c .before .before .before .before .args .y) ≡ true
+y-finite c = sym (c .before .is-finite2 .ensures) ∙ c .if2 .taken
+
+x-within : (c : tie.Then3) → let a = c .before .before .before .before .before .before .args in within (a .x-from) (a .x-to) (a .x) ≡ true
+x-within c = sym (c .before .ranged .ensures) ∙ c .if3 .taken
+
 returns : tie.Need-returns
 returns c =
-    let a = c .before .before .before .before .before .before .before .before .args in
-    let f : finite (a .x) ≡ true = cc in
-    let g : finite (a .y) ≡ true = cc in
-    let r : within (a .x-from) (a .x-to) (a .x) ≡ true = cc in
-    let s : within (a .y-from) (a .y-to) (a .y) ≡ true = cc in
-    rw (f, g, r, s)
+    let k = c .before .before in
+    let l = k .before .before in
+    rw (x-finite (l .before .before), y-finite l, x-within k, sym (c .before .ranged2 .ensures) ∙ c .if4 .taken)
 
 returns-2 : tie.Need-returns-2
 returns-2 c =
-    let a = c .before .before .before .before .before .before .before .before .args in
-    let f : finite (a .x) ≡ true = cc in
-    let g : finite (a .y) ≡ true = cc in
-    let r : within (a .x-from) (a .x-to) (a .x) ≡ true = cc in
-    let s : within (a .y-from) (a .y-to) (a .y) ≡ false = cc in
-    rw (f, g, r, s)
+    let k = c .before .before in
+    let l = k .before .before in
+    rw (x-finite (l .before .before), y-finite l, x-within k, sym (c .before .ranged2 .ensures) ∙ c .if4 .left)
 
 returns-3 : tie.Need-returns-3
 returns-3 c =
-    let a = c .before .before .before .before .before .before .args in
-    let f : finite (a .x) ≡ true = cc in
-    let g : finite (a .y) ≡ true = cc in
-    let r : within (a .x-from) (a .x-to) (a .x) ≡ false = cc in
-    rw (f, g, r)
+    let l = c .before .before in
+    rw (x-finite (l .before .before), y-finite l, sym (c .before .ranged .ensures) ∙ c .if3 .left)
 
 returns-4 : tie.Need-returns-4
-returns-4 c =
-    let a = c .before .before .before .before .args in
-    let f : finite (a .x) ≡ true = cc in
-    let g : finite (a .y) ≡ false = cc in
-    rw (f, g)
+returns-4 c = rw (x-finite (c .before .before), sym (c .before .is-finite2 .ensures) ∙ c .if2 .left)
 
 returns-5 : tie.Need-returns-5
-returns-5 c =
-    let a = c .before .before .args in
-    let f : finite (a .x) ≡ false = cc in
-    rw (f)
+returns-5 c = rw (sym (c .before .is-finite .ensures) ∙ c .if1 .left)
 
 pub check-pair-spec : {M : Type 1} → statement M
 check-pair-spec =
-    tie.close
-    (tie.spec
-    (λ c κs. search needs)
-    (λ c κs. search needs)
-    (λ c κs. search needs)
-    (λ c κs. search needs)
-    returns
-    returns-2
-    returns-3
-    returns-4
-    returns-5)
+    tie.close (tie.spec (λ c κs. search needs) (λ c κs. search needs) (λ c κs. search needs) (λ c κs. search needs) returns returns-2 returns-3
+    returns-4 returns-5)

@@ -1,4 +1,4 @@
--- `common::over` meets its contract. Assumes nothing.
+-- `common::over` meets its contract: by whether the denominator is finite. Assumes nothing.
 use Rattle.common.proofs.Formulas.{lostOr-finite, lostOr-lost}
 use mathlib.Core.Path.{_≡_, sym}
 use mathlib.Core.Bool.{true, false}

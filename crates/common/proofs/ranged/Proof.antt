@@ -1,4 +1,4 @@
--- `common::ranged` meets its contract. Assumes nothing.
+-- `common::ranged` meets its contract: both ends are tested, the lower first. Assumes nothing.
 use Rattle.common.proofs.ranged.Statement.{statement}
 use Rattle.common.proofs.ranged.Tie as tie
 

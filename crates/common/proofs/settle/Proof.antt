@@ -1,4 +1,4 @@
--- `common::settle` meets its contract. Assumes nothing.
+-- `common::settle` meets its contract: by whether the number is finite. Assumes nothing.
 use mathlib.Core.Path.{sym}
 use borrow.Author.Needs.{needs}
 use Rattle.common.proofs.Laws.{check-kept, check-lost}

@@ -1,13 +1,22 @@
--- `exchange_writer::write_by` meets its contract. Assumes nothing.
-use mathlib.Core.Path.{_≡_, ap, _∙_}
-use mathlib.Core.List.{List, [], _∷_}
+-- `exchange_writer::write_by` meets its contract: the pair of the byte, then its point written. Assumes nothing.
+use mathlib.Core.Path.{_≡_, sym, ap, _∙_}
+use mathlib.Core.List.{List}
 use Prim.Native.Nat.{ℕ}
 use borrow.Author.Needs.{needs}
 use Rattle.common.specs.Outcome.{Outcome, numberIn}
-use Rattle.common.proofs.Arms.{tests}
-use Rattle.exchange_writer.specs.Written.{numbered}
+use Rattle.exchange_record.specs.declared.Pair.{Pair}
+use Rattle.exchange_entry.specs.declared.Point.{Point}
+use Rattle.exchange_writer.specs.declared.PairAnswer.{PairAnswer}
+use Rattle.exchange_writer.specs.Written.{writeRule, paperPair, numbered, writtenFor, writtenBy}
 use Rattle.exchange_writer.proofs.write_by.Statement.{statement}
 use Rattle.exchange_writer.proofs.write_by.Tie as tie
+
+-- the rule, from the pair that the byte names
+said : (c : tie.After-pair-by) (w : PairAnswer) → c .pair-by .result ≡ w
+    → let a = c .before .before .args in writtenBy (a .pair) (a .a) (a .b) (a .out .now) ≡ writtenFor (paperPair w) (a .a) (a .b) (a .out .now)
+said c w e =
+    let a = c .before .before .args in
+    ap (λ (o : Outcome Pair). writtenFor o (a .a) (a .b) (a .out .now)) (sym (c .pair-by .ensures) ∙ ap paperPair e)
 
 -- a number and the bytes, from what the writer says of both
 told : (r : ℕ) (o : Outcome Unit) (out : List ℕ) (z : Outcome Unit × List ℕ) → r ≡ numberIn o → (o, out) ≡ z → _≡_ {A = ℕ × List ℕ} (r, out) (numbered z)
@@ -16,55 +25,16 @@ told r o out z e h = ap (λ (n : ℕ). (n, out)) e ∙ ap numbered h
 returns : tie.Need-returns
 returns c =
     let w = c .before .before .before in
-    rw (w .before .before .match .keys1) (told _ _ _ _ (c .write-number .ensures) (w .write .ensures))
+    let p = w .before .before in
+    let m = p .before .before in
+    told _ _ _ _ (c .write-number .ensures) (w .write .ensures)
+    ∙ ap (λ (x : Point). numbered (writeRule x (m .before .before .before .before .args .out .now))) (p .point-at .ensures)
+    ∙ sym (said (m .before .before) _ (m .p .given .1))
 
 returns-2 : tie.Need-returns-2
-returns-2 c =
-    let w = c .before .before .before in
-    rw (w .before .before .match .keys2) (told _ _ _ _ (c .write-number2 .ensures) (w .write2 .ensures))
-
-returns-3 : tie.Need-returns-3
-returns-3 c =
-    let w = c .before .before .before in
-    rw (w .before .before .match .keys3) (told _ _ _ _ (c .write-number3 .ensures) (w .write3 .ensures))
-
-returns-4 : tie.Need-returns-4
-returns-4 c =
-    let w = c .before .before .before in
-    rw (w .before .before .match .keys4) (told _ _ _ _ (c .write-number4 .ensures) (w .write4 .ensures))
-
-returns-5 : tie.Need-returns-5
-returns-5 c =
-    let w = c .before .before .before in
-    rw (w .before .before .match .keys5) (told _ _ _ _ (c .write-number5 .ensures) (w .write5 .ensures))
-
-returns-6 : tie.Need-returns-6
-returns-6 c =
-    let t = tests (c .before .before .args .pair) (1 ∷ 2 ∷ 3 ∷ 4 ∷ 5 ∷ []) (c .match .rest) in
-    rw (t 1 tt, t 2 tt, t 3 tt, t 4 tt, t 5 tt)
+returns-2 c = sym (said (c .before .before) _ (c .enum-told .given .1))
 
 pub write-by-spec : {M : Type 1} → statement M
 write-by-spec =
-    tie.close
-    (tie.spec
-    (λ c κs. search needs)
-    (λ c κs. search needs)
-    (λ c κs. search needs)
-    (λ c κs. search needs)
-    (λ c κs. search needs)
-    (λ c κs. search needs)
-    (λ c κs. search needs)
-    (λ c κs. search needs)
-    (λ c κs. search needs)
-    (λ c κs. search needs)
-    (λ c. search needs)
-    returns
-    (λ c. search needs)
-    returns-2
-    (λ c. search needs)
-    returns-3
-    (λ c. search needs)
-    returns-4
-    (λ c. search needs)
-    returns-5
-    returns-6)
+    tie.close (tie.spec (λ c κs. search needs) (λ c. search needs) (λ c κs. search needs) (λ c κs. search needs) (λ c κs. search needs)
+    (λ c. search needs) (λ c. search needs) returns returns-2)

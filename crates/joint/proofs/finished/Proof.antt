@@ -1,4 +1,4 @@
--- `joint::finished` meets its contract. Assumes nothing.
+-- `joint::finished` meets its contract: a sum divided once by its base, if both bases are finite. Assumes nothing.
 use mathlib.Core.Path.{_∙_, ap}
 use lib.Ieee.{Float}
 use borrow.Author.Needs.{needs}

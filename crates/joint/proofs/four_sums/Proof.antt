@@ -1,29 +1,26 @@
 -- `joint::four_sums` meets its contract. The invariant: n is the shortest column's length, and what is left of the rows, added to each sum so far, is
 -- the whole sum.
-use mathlib.Core.Path.{_≡_, refl, sym, _∙_}
+use mathlib.Core.Path.{refl}
 use Prim.Native.Nat.{_-_}
 use native.Mathlib.Omega.{arith}
 use lib.IntN.{pos}
 use lib.Ieee.{ofBits}
 use lib.ListN.{length, getD}
 use borrow.Author.Needs.{needs}
-use Rattle.common.specs.Outcome.{zeroF}
-use Rattle.common.specs.Sum.{rawTotal}
-use Rattle.algo.specs.Table.{rowsOf}
-use Rattle.algo.specs.Raw.{rowsFrom, tabledShare}
 use Rattle.algo.specs.declared.Order.the-variants.{Zero}
 use Rattle.algo.specs.declared.Share.the-variants.{I, Ii, Ij, Jj}
-use Rattle.algo.proofs.Loops.{Within, Shortest, shortest, one-more, none-after, back}
+use Rattle.algo.proofs.Loops.{Within, Shortest, shortest, back}
+use Rattle.joint.proofs.Shares.{LeftOf, Item, added, ended}
 use Rattle.joint.proofs.four_sums.Statement.{statement}
 use Rattle.joint.proofs.four_sums.Tie as tie
 
 abbrev Inv-loop : tie.InvT-loop
 Inv-loop wi wj is js ns n i₀ ii₀ ij₀ jj₀ k₀ i ii ij jj k =
     Shortest (length is) (length js) (length ns) n
-    × (rawTotal (tabledShare Zero I wi wj) zeroF (rowsOf is js ns) ≡ rawTotal (tabledShare Zero I wi wj) i (rowsFrom is js ns k))
-    × (rawTotal (tabledShare Zero Ii wi wj) zeroF (rowsOf is js ns) ≡ rawTotal (tabledShare Zero Ii wi wj) ii (rowsFrom is js ns k))
-    × (rawTotal (tabledShare Zero Ij wi wj) zeroF (rowsOf is js ns) ≡ rawTotal (tabledShare Zero Ij wi wj) ij (rowsFrom is js ns k))
-    × (rawTotal (tabledShare Zero Jj wi wj) zeroF (rowsOf is js ns) ≡ rawTotal (tabledShare Zero Jj wi wj) jj (rowsFrom is js ns k))
+    × LeftOf Zero I wi wj is js ns i k
+    × LeftOf Zero Ii wi wj is js ns ii k
+    × LeftOf Zero Ij wi wj is js ns ij k
+    × LeftOf Zero Jj wi wj is js ns jj k
 
 abbrev μ-loop : tie.MeasureT-loop
 μ-loop wi wj is js ns n i₀ ii₀ ij₀ jj₀ k₀ i ii ij jj k = n - k
@@ -57,74 +54,38 @@ shared-slice-read-factor c = within (c .before .before .before) .n
 add-k : tie.Need-add-k Inv-loop μ-loop
 add-k c = let w = within (c .before .before .before .before .before .before .before .before .before) in omega (arith, w .n)
 
-loop-less : tie.Need-loop-less Inv-loop μ-loop
-loop-less c = omega arith
-
 loop-again : tie.Need-loop-again Inv-loop μ-loop
 loop-again c =
     let w = c .before .before .before in
     let f = w .before in
     let j = f .before .before .before in
     let l = j .before .before in
+    let v = l .before .loop in
     let a = l .before .before .before .before .before .args in
-    let k = l .before .loop .k in
-    let bi = back (getD (a .is .now) k (pos 0)) (j .before .i .given) in
-    let bj = back (getD (a .js .now) k (pos 0)) (j .j .given) in
-    let once = rw bi at (f .before .factor .ensures) in
-    let item = rw bj at (f .factor2 .ensures) in
-    let p = rw bi at (w .weigh .ensures) in
-    let q = rw bi at (c .before .before .weigh2 .ensures) in
-    let r = rw (bi, bj) at (c .before .weigh3 .ensures) in
-    let s = rw bj at (c .weigh4 .ensures) in (
-      l .before .loop .inv .0,
-      rw (p, item, once) (l .before .loop .inv .1 ∙ one-more (tabledShare Zero I (a .wi .now) (a .wj .now)) (l .before .loop .by-i) (a .is .now) (a .js .now) (a .ns .now) k (within l)),
-      rw (q, item, once) (l .before .loop .inv .2 ∙ one-more (tabledShare Zero Ii (a .wi .now) (a .wj .now)) (l .before .loop .by-ii) (a .is .now) (a .js .now) (a .ns .now) k (within l)),
-      rw (r, item, once) (l .before .loop .inv .3 ∙ one-more (tabledShare Zero Ij (a .wi .now) (a .wj .now)) (l .before .loop .by-ij) (a .is .now) (a .js .now) (a .ns .now) k (within l)),
-      rw (s, item, once) (l .before .loop .inv .4 ∙ one-more (tabledShare Zero Jj (a .wi .now) (a .wj .now)) (l .before .loop .by-jj) (a .is .now) (a .js .now) (a .ns .now) k (within l)),
+    let t : Item Zero (a .wi .now) (a .wj .now) (a .is .now) (a .js .now) (a .ns .now) (v .k) _ _ _ = record {
+      i-is = back (getD (a .is .now) (v .k) (pos 0)) (j .before .i .given);
+      j-is = back (getD (a .js .now) (v .k) (pos 0)) (j .j .given);
+      by-i = f .before .factor .result;
+      by-i-is = f .before .factor .ensures;
+      item-is = f .factor2 .ensures;
+    } in
+    let add = added Zero (a .wi .now) (a .wj .now) (a .is .now) (a .js .now) (a .ns .now) (v .k) (within l) t in (
+      v .inv .0,
+      add I (v .by-i) _ (w .weigh .ensures) (v .inv .1),
+      add Ii (v .by-ii) _ (c .before .before .weigh2 .ensures) (v .inv .2),
+      add Ij (v .by-ij) _ (c .before .weigh3 .ensures) (v .inv .3),
+      add Jj (v .by-jj) _ (c .weigh4 .ensures) (v .inv .4),
     )
 
 returns : tie.Need-returns Inv-loop μ-loop
 returns c =
-    let l = c .before in
-    let a = l .before .before .before .before .args in
-    let z = l .loop .inv .0 in
-    let at-end = c .loop-test .left in (
-      record {
-        is = sym (l .loop .inv .1 ∙ none-after (tabledShare Zero I (a .wi .now) (a .wj .now)) (l .loop .by-i) (a .is .now) (a .js .now) (a .ns .now) _ z (l .loop .k) at-end);
-      },
-      record {
-        is = sym (l .loop .inv .2 ∙ none-after (tabledShare Zero Ii (a .wi .now) (a .wj .now)) (l .loop .by-ii) (a .is .now) (a .js .now) (a .ns .now) _ z (l .loop .k) at-end);
-      },
-      record {
-        is = sym (l .loop .inv .3 ∙ none-after (tabledShare Zero Ij (a .wi .now) (a .wj .now)) (l .loop .by-ij) (a .is .now) (a .js .now) (a .ns .now) _ z (l .loop .k) at-end);
-      },
-      record {
-        is = sym (l .loop .inv .4 ∙ none-after (tabledShare Zero Jj (a .wi .now) (a .wj .now)) (l .loop .by-jj) (a .is .now) (a .js .now) (a .ns .now) _ z (l .loop .k) at-end);
-      },
-    )
+    let v = c .before .loop in
+    let a = c .before .before .before .before .before .args in
+    let end = ended Zero (a .wi .now) (a .wj .now) (a .is .now) (a .js .now) (a .ns .now) (v .k) (v .inv .0) (c .loop-test .left) in
+    (end I (v .by-i) (v .inv .1), end Ii (v .by-ii) (v .inv .2), end Ij (v .by-ij) (v .inv .3), end Jj (v .by-jj) (v .inv .4))
 
 pub four-sums-spec : {M : Type 1} → statement M
 four-sums-spec =
-    tie.close
-    (tie.spec
-    Inv-loop
-    μ-loop
-    (λ c κs. search needs)
-    (λ c κs. search needs)
-    loop-holds
-    mul-i
-    shared-slice-copy-out-i
-    mul-j
-    shared-slice-copy-out-j
-    mul-factor
-    shared-slice-read-factor
-    (λ c κs. search needs)
-    (λ c κs. search needs)
-    (λ c κs. search needs)
-    (λ c κs. search needs)
-    (λ c κs. search needs)
-    (λ c κs. search needs)
-    add-k
-    loop-less
-    loop-again
-    returns)
+    tie.close (tie.spec Inv-loop μ-loop (λ c κs. search needs) (λ c κs. search needs) loop-holds mul-i shared-slice-copy-out-i mul-j
+    shared-slice-copy-out-j mul-factor shared-slice-read-factor (λ c κs. search needs) (λ c κs. search needs) (λ c κs. search needs)
+    (λ c κs. search needs) (λ c κs. search needs) (λ c κs. search needs) add-k (λ c. omega arith) loop-again returns)

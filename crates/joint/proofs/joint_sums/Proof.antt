@@ -1,25 +1,21 @@
 -- `joint::joint_sums` meets its contract. The invariant: n is the shortest column's length, and what is left of the rows, added to each sum so far, is
 -- the whole sum.
-use mathlib.Core.Path.{_≡_, refl, sym, _∙_}
+use mathlib.Core.Path.{refl}
 use Prim.Native.Nat.{_-_}
 use native.Mathlib.Omega.{arith}
 use lib.IntN.{pos}
 use lib.Ieee.{ofBits}
 use lib.ListN.{length, getD}
 use borrow.Author.Needs.{needs}
-use Rattle.common.specs.Outcome.{zeroF}
-use Rattle.common.specs.Sum.{rawTotal}
-use Rattle.algo.specs.Table.{rowsOf}
-use Rattle.algo.specs.Raw.{rowsFrom, tabledShare}
-use Rattle.algo.proofs.Loops.{Within, Shortest, shortest, one-more, none-after, back}
+use Rattle.algo.proofs.Loops.{Within, Shortest, shortest, back}
+use Rattle.algo.specs.declared.Order.the-variants.{Zero}
+use Rattle.joint.proofs.Shares.{LeftOf, Item, added, ended}
 use Rattle.joint.proofs.joint_sums.Statement.{statement}
 use Rattle.joint.proofs.joint_sums.Tie as tie
 
 abbrev Inv-loop : tie.InvT-loop
 Inv-loop a s t wi wj is js ns n first₀ second₀ k₀ first second k =
-    Shortest (length is) (length js) (length ns) n
-    × (rawTotal (tabledShare a s wi wj) zeroF (rowsOf is js ns) ≡ rawTotal (tabledShare a s wi wj) first (rowsFrom is js ns k))
-    × (rawTotal (tabledShare a t wi wj) zeroF (rowsOf is js ns) ≡ rawTotal (tabledShare a t wi wj) second (rowsFrom is js ns k))
+    Shortest (length is) (length js) (length ns) n × LeftOf a s wi wj is js ns first k × LeftOf a t wi wj is js ns second k
 
 abbrev μ-loop : tie.MeasureT-loop
 μ-loop a s t wi wj is js ns n first₀ second₀ k₀ first second k = n - k
@@ -53,61 +49,35 @@ shared-slice-read-factor c = within (c .before .before .before) .n
 add-k : tie.Need-add-k Inv-loop μ-loop
 add-k c = let w = within (c .before .before .before .before .before .before .before) in omega (arith, w .n)
 
-loop-less : tie.Need-loop-less Inv-loop μ-loop
-loop-less c = omega arith
-
 loop-again : tie.Need-loop-again Inv-loop μ-loop
 loop-again c =
     let f = c .before .before in
     let j = f .before .before .before in
     let l = j .before .before in
+    let v = l .before .loop in
     let a = l .before .before .before .before .before .args in
-    let k = l .before .loop .k in
-    let bi = back (getD (a .is .now) k (pos 0)) (j .before .i .given) in
-    let bj = back (getD (a .js .now) k (pos 0)) (j .j .given) in
-    let once = rw bi at (f .before .factor .ensures) in
-    let item = rw bj at (f .factor2 .ensures) in
-    let p = rw (bi, bj) at (c .before .weigh .ensures) in
-    let q = rw (bi, bj) at (c .weigh2 .ensures) in (
-      l .before .loop .inv .0,
-      rw (p, item, once) (l .before .loop .inv .1 ∙ one-more (tabledShare (a .a) (a .s) (a .wi .now) (a .wj .now)) (l .before .loop .first) (a .is .now) (a .js .now) (a .ns .now) k (within l)),
-      rw (q, item, once) (l .before .loop .inv .2 ∙ one-more (tabledShare (a .a) (a .t) (a .wi .now) (a .wj .now)) (l .before .loop .second) (a .is .now) (a .js .now) (a .ns .now) k (within l)),
+    let t : Item (a .a) (a .wi .now) (a .wj .now) (a .is .now) (a .js .now) (a .ns .now) (v .k) _ _ _ = record {
+      i-is = back (getD (a .is .now) (v .k) (pos 0)) (j .before .i .given);
+      j-is = back (getD (a .js .now) (v .k) (pos 0)) (j .j .given);
+      by-i = f .before .factor .result;
+      by-i-is = f .before .factor .ensures;
+      item-is = f .factor2 .ensures;
+    } in
+    let add = added (a .a) (a .wi .now) (a .wj .now) (a .is .now) (a .js .now) (a .ns .now) (v .k) (within l) t in (
+      v .inv .0,
+      add (a .s) (v .first) _ (c .before .weigh .ensures) (v .inv .1),
+      add (a .t) (v .second) _ (c .weigh2 .ensures) (v .inv .2),
     )
 
 returns : tie.Need-returns Inv-loop μ-loop
 returns c =
-    let l = c .before in
-    let a = l .before .before .before .before .args in
-    let z = l .loop .inv .0 in
-    let at-end = c .loop-test .left in (
-      record {
-        is = sym (l .loop .inv .1 ∙ none-after (tabledShare (a .a) (a .s) (a .wi .now) (a .wj .now)) (l .loop .first) (a .is .now) (a .js .now) (a .ns .now) _ z (l .loop .k) at-end);
-      },
-      record {
-        is = sym (l .loop .inv .2 ∙ none-after (tabledShare (a .a) (a .t) (a .wi .now) (a .wj .now)) (l .loop .second) (a .is .now) (a .js .now) (a .ns .now) _ z (l .loop .k) at-end);
-      },
-    )
+    let v = c .before .loop in
+    let a = c .before .before .before .before .before .args in
+    let end = ended (a .a) (a .wi .now) (a .wj .now) (a .is .now) (a .js .now) (a .ns .now) (v .k) (v .inv .0) (c .loop-test .left) in
+    (end (a .s) (v .first) (v .inv .1), end (a .t) (v .second) (v .inv .2))
 
 pub joint-sums-spec : {M : Type 1} → statement M
 joint-sums-spec =
-    tie.close
-    (tie.spec
-    Inv-loop
-    μ-loop
-    (λ c κs. search needs)
-    (λ c κs. search needs)
-    loop-holds
-    mul-i
-    shared-slice-copy-out-i
-    mul-j
-    shared-slice-copy-out-j
-    mul-factor
-    shared-slice-read-factor
-    (λ c κs. search needs)
-    (λ c κs. search needs)
-    (λ c κs. search needs)
-    (λ c κs. search needs)
-    add-k
-    loop-less
-    loop-again
-    returns)
+    tie.close (tie.spec Inv-loop μ-loop (λ c κs. search needs) (λ c κs. search needs) loop-holds mul-i shared-slice-copy-out-i mul-j
+    shared-slice-copy-out-j mul-factor shared-slice-read-factor (λ c κs. search needs) (λ c κs. search needs) (λ c κs. search needs)
+    (λ c κs. search needs) add-k (λ c. omega arith) loop-again returns)

@@ -3,18 +3,8 @@ use borrow.Author.Needs.{needs}
 use Rattle.place.proofs.checked.Statement.{statement}
 use Rattle.place.proofs.checked.Tie as tie
 
-returns : tie.Need-returns
-returns c = rw (c .before .before .curve .given .1) (c .check-p .ensures)
-
-returns-2 : tie.Need-returns-2
-returns-2 c = rw (c .before .before .curve2 .given .1) (c .check-h .ensures)
-
-returns-3 : tie.Need-returns-3
-returns-3 c = rw (c .before .before .curve3 .given .1) (c .check-s .ensures)
-
 pub checked-spec : {M : Type 1} → statement M
 checked-spec =
-    tie.close
-    (tie.spec
-    (λ c. search needs) (λ c κs. search needs) (λ c. search needs) (λ c κs. search needs) (λ c. search needs) (λ c κs. search needs)
-    returns returns-2 returns-3)
+    tie.close (tie.spec (λ c. search needs) (λ c κs. search needs) (λ c. search needs) (λ c κs. search needs) (λ c. search needs)
+    (λ c κs. search needs) (λ c. rw (c .before .before .curve .given .1) (c .check-p .ensures))
+    (λ c. rw (c .before .before .curve2 .given .1) (c .check-h .ensures)) (λ c. rw (c .before .before .curve3 .given .1) (c .check-s .ensures)))

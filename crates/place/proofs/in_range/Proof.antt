@@ -3,18 +3,8 @@ use borrow.Author.Needs.{needs}
 use Rattle.place.proofs.in_range.Statement.{statement}
 use Rattle.place.proofs.in_range.Tie as tie
 
-returns : tie.Need-returns
-returns c = rw (c .before .enum-told .given .1) (c .in-t .ensures)
-
-returns-2 : tie.Need-returns-2
-returns-2 c = rw (c .before .enum-told2 .given .1) (c .in-d .ensures)
-
-returns-3 : tie.Need-returns-3
-returns-3 c = rw (c .before .enum-told3 .given .1) (c .in-d2 .ensures)
-
 pub in-range-spec : {M : Type 1} → statement M
 in-range-spec =
-    tie.close
-    (tie.spec
-    (λ c. search needs) (λ c κs. search needs) (λ c. search needs) (λ c κs. search needs) (λ c. search needs) (λ c κs. search needs)
-    returns returns-2 returns-3)
+    tie.close (tie.spec (λ c. search needs) (λ c κs. search needs) (λ c. search needs) (λ c κs. search needs) (λ c. search needs)
+    (λ c κs. search needs) (λ c. rw (c .before .enum-told .given .1) (c .in-t .ensures))
+    (λ c. rw (c .before .enum-told2 .given .1) (c .in-d .ensures)) (λ c. rw (c .before .enum-told3 .given .1) (c .in-d2 .ensures)))

@@ -1,15 +1,13 @@
 -- `place::starts` meets its contract: by the curve. Assumes nothing.
 use mathlib.Core.Path.{_≡_, sym, ap, _∙_}
-use lib.Ieee.{Float, ofBits, round}
+use lib.Ieee.{ofBits, round}
 use borrow.Author.Needs.{needs}
-use Rattle.common.specs.Outcome.{Outcome, value, check, then}
-use Rattle.common.specs.Constant.{T-FROM}
+use Rattle.common.specs.Outcome.{check}
 use Rattle.common.specs.Answer.{paper}
 use Rattle.common.specs.Decimal.{decimal, scaled}
 use Rattle.common.specs.declared.Answer.{Answer}
 use Rattle.border.specs.Border.{B23-p2T}
-use Rattle.secant.specs.declared.Curve.{Curve}
-use Rattle.place.specs.Found.{Starts, startsOf}
+use Rattle.place.specs.AcceptedPlace.{startsOf}
 use Rattle.place.proofs.Laws.{p2T-settled}
 use Rattle.place.proofs.starts.Statement.{statement}
 use Rattle.place.proofs.starts.Tie as tie
@@ -18,19 +16,13 @@ use Rattle.place.proofs.starts.Tie as tie
 border : (c : tie.After-settle) (a : Answer) → c .settle .result ≡ a → B23-p2T (c .before .before .before .before .args .y) ≡ paper a
 border c a e = sym (p2T-settled _) ∙ ap check (sym (c .before .raw-B23-p2T .ensures)) ∙ sym (c .settle .ensures) ∙ ap paper e
 
--- the rule on an isochore, from what was answered
-isochore : (c : tie.After-settle) (a : Answer) → c .settle .result ≡ a
-    → startsOf (c .before .before .before .before .args .curve) (c .before .before .before .before .args .y) ≡ then (paper a) (λ t. value (record { first = T-FROM; second = t }))
-unfolding startsOf
-isochore c a e =
-    rw (c .before .before .enum-told .given .1) (ap (λ (o : Outcome Float). then o (λ t. value (record { first = T-FROM; second = t }))) (border c a e))
-
 returns : tie.Need-returns
-unfolding ofBits decimal scaled round
-returns c = sym (isochore (c .before .before .before) _ (c .before .t .given .1))
+unfolding startsOf ofBits decimal scaled round
+returns c = let k = c .before .before .before in rw (k .before .before .enum-told .given .1, border k _ (c .before .t .given .1))
 
 returns-2 : tie.Need-returns-2
-returns-2 c = sym (isochore (c .before .before .before) _ (c .before .k .given .1))
+unfolding startsOf
+returns-2 c = let k = c .before .before .before in rw (k .before .before .enum-told .given .1, border k _ (c .before .k .given .1))
 
 returns-3 : tie.Need-returns-3
 unfolding startsOf
@@ -42,8 +34,5 @@ returns-4 c = rw (c .before .before .curve2 .given .1) (c .densities2 .ensures)
 
 pub starts-spec : {M : Type 1} → statement M
 starts-spec =
-    tie.close
-    (tie.spec
-    (λ c. search needs) (λ c κs. search needs) (λ c κs. search needs) (λ c. search needs) (λ c. search needs)
-    (λ c. search needs) (λ c κs. search needs) (λ c. search needs) (λ c κs. search needs)
-    returns returns-2 returns-3 returns-4)
+    tie.close (tie.spec (λ c. search needs) (λ c κs. search needs) (λ c κs. search needs) (λ c. search needs) (λ c. search needs) (λ c. search needs)
+    (λ c κs. search needs) (λ c. search needs) (λ c κs. search needs) returns returns-2 returns-3 returns-4)

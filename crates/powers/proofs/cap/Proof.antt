@@ -3,11 +3,5 @@ use native.Mathlib.Omega.{arith}
 use Rattle.powers.proofs.cap.Statement.{statement}
 use Rattle.powers.proofs.cap.Tie as tie
 
-returns : tie.Need-returns
-returns c = omega arith
-
-returns-2 : tie.Need-returns-2
-returns-2 c = omega arith
-
 pub cap-spec : {M : Type 1} → statement M
-cap-spec = tie.close (tie.spec returns returns-2)
+cap-spec = tie.close (tie.spec (λ c. omega arith) (λ c. omega arith))

@@ -1,6 +1,5 @@
 -- `powers::fill_bare` meets its contract: upward as far as either end goes, and then downward.
-use mathlib.Core.Path.{_≡_}
-use Prim.Native.Nat.{ℕ, _+_, _-_, _≤_}
+use Prim.Native.Nat.{_+_, _-_}
 use native.Mathlib.Omega.{arith}
 use borrow.Author.Needs.{needs}
 use Rattle.powers.proofs.Highest.{Top, top-is}
@@ -12,9 +11,6 @@ top c = top-is _ _ _ _ _ (c .before .before .cap .ensures) (c .before .cap2 .ens
 
 fill-up-requires : tie.Need-fill-up-requires
 fill-up-requires c κs = top (c .before) .small
-
-fill-down-requires : tie.Need-fill-down-requires
-fill-down-requires c κs = omega (arith, c .before .before .before .before .cap2 .ensures)
 
 returns : tie.Need-returns
 returns c =
@@ -29,4 +25,5 @@ returns c =
 
 pub fill-bare-spec : {M : Type 1} → statement M
 fill-bare-spec =
-    tie.close (tie.spec (λ c κs. search needs) (λ c κs. search needs) (λ c κs. search needs) (λ c. search needs) fill-up-requires fill-down-requires returns)
+    tie.close (tie.spec (λ c κs. search needs) (λ c κs. search needs) (λ c κs. search needs) (λ c. search needs) fill-up-requires
+    (λ c κs. omega (arith, c .before .before .before .before .cap2 .ensures)) returns)

@@ -20,33 +20,6 @@ abbrev μ-loop : tie.MeasureT-loop
 loop-holds : tie.Need-loop-holds Inv-loop μ-loop
 loop-holds c = (omega arith, λ a b hi n f. f)
 
-cast-at : tie.Need-cast-at Inv-loop μ-loop
-cast-at c = omega arith
-
-add-over : tie.Need-add-over Inv-loop μ-loop
-add-over c = omega arith
-
-mul-over : tie.Need-mul-over Inv-loop μ-loop
-mul-over c = omega arith
-
-element-copy-out-over : tie.Need-element-copy-out-over Inv-loop μ-loop
-element-copy-out-over c = omega arith
-
-sub-w : tie.Need-sub-w Inv-loop μ-loop
-sub-w c = omega arith
-
-mul-w : tie.Need-mul-w Inv-loop μ-loop
-mul-w c = omega arith
-
-element-write-w : tie.Need-element-write-w Inv-loop μ-loop
-element-write-w c = omega arith
-
-add-k : tie.Need-add-k Inv-loop μ-loop
-add-k c = omega arith
-
-loop-less : tie.Need-loop-less Inv-loop μ-loop
-loop-less c = omega arith
-
 loop-again : tie.Need-loop-again Inv-loop μ-loop
 unfolding ofBits
 loop-again c =
@@ -65,20 +38,5 @@ returns c =
 
 pub fill-down-spec : {M : Type 1} → statement M
 fill-down-spec =
-    tie.close
-    (tie.spec
-    Inv-loop
-    μ-loop
-    loop-holds
-    cast-at
-    add-over
-    mul-over
-    element-copy-out-over
-    (λ c κs. search needs)
-    sub-w
-    mul-w
-    element-write-w
-    add-k
-    loop-less
-    loop-again
-    returns)
+    tie.close (tie.spec Inv-loop μ-loop loop-holds (λ c. omega arith) (λ c. omega arith) (λ c. omega arith) (λ c. omega arith) (λ c κs. search needs)
+    (λ c. omega arith) (λ c. omega arith) (λ c. omega arith) (λ c. omega arith) (λ c. omega arith) loop-again returns)

@@ -1,5 +1,5 @@
 -- `powers::fill_powers` meets its contract: at a usual base the powers by doubling are the rule's, and at any other each is worked by it.
-use mathlib.Core.Path.{_≡_, refl, sym, _∙_, ap}
+use mathlib.Core.Path.{_≡_, sym, _∙_, ap}
 use mathlib.Core.Bool.{true}
 use Prim.Native.Nat.{ℕ, _+_, _-_, _≤_}
 use native.Mathlib.Omega.{arith}
@@ -26,7 +26,7 @@ returns : tie.Need-returns
 returns c =
     let s = c .before .before .before .before in
     let a = s .args in
-    let u : usualBase (a .a) ≡ true = cc in
+    let u : usualBase (a .a) ≡ true = sym (c .before .before .before .usual .ensures) ∙ c .before .before .if1 .taken in
     record { stand = λ e. usual-written (a .a) (a .w .now) _ (64 - capped (a .down)) (72 + (highest (a .up) (a .down) - 7)) (within (a .up) (a .down)) u (c .fill-bare .ensures .stand e) }
 
 returns-2 : tie.Need-returns-2
@@ -38,18 +38,5 @@ returns-2 c =
 
 pub fill-powers-spec : {M : Type 1} → statement M
 fill-powers-spec =
-    tie.close
-    (tie.spec
-    (λ c κs. search needs)
-    (λ c κs. search needs)
-    (λ c κs. search needs)
-    (λ c κs. search needs)
-    (λ c κs. search needs)
-    (λ c κs. search needs)
-    (λ c. search needs)
-    (λ c. search needs)
-    (λ c. search needs)
-    (λ c. search needs)
-    fill-by-rule-requires
-    returns
-    returns-2)
+    tie.close (tie.spec (λ c κs. search needs) (λ c κs. search needs) (λ c κs. search needs) (λ c κs. search needs) (λ c κs. search needs)
+    (λ c κs. search needs) (λ c. search needs) (λ c. search needs) (λ c. search needs) (λ c. search needs) fill-by-rule-requires returns returns-2)

@@ -51,6 +51,4 @@ returns-3 : tie.Need-returns-3
 returns-3 c = rw (place (c .before), known (c .before) .small)
 
 pub power-in-spec : {M : Type 1} → statement M
-power-in-spec =
-    tie.close
-    (tie.spec returns returns-2 add-at cast-at mul-result element-copy-out-result returns-3)
+power-in-spec = tie.close (tie.spec returns returns-2 add-at cast-at mul-result element-copy-out-result returns-3)

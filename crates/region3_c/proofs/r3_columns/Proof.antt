@@ -1,4 +1,4 @@
--- `region3_c::r3_columns` meets its contract. Assumes nothing.
+-- `region3_c::r3_columns` meets its contract: the run's verdict as a byte, beside its columns. Assumes nothing.
 use borrow.Author.Needs.{needs}
 use Rattle.region3_c.proofs.Exports.{exported-columns}
 use Rattle.region3_c.proofs.r3_columns.Statement.{statement}
@@ -11,5 +11,4 @@ returns c =
 
 pub r3-columns-spec : {M : Type 1} → statement M
 r3-columns-spec =
-    tie.close
-    (tie.spec (λ c κs. search needs) (λ c κs. search needs) (λ c. search needs) (λ c. search needs) (λ c. search needs) returns)
+    tie.close (tie.spec (λ c κs. search needs) (λ c κs. search needs) (λ c. search needs) (λ c. search needs) (λ c. search needs) returns)

@@ -1,4 +1,4 @@
--- `region3_c::r3_power` meets its contract. Assumes nothing.
+-- `region3_c::r3_power` meets its contract: the rule's answer, exported; its exponent is the caller's. Assumes nothing.
 use mathlib.Core.Path.{ap, _∙_}
 use mir.Facts.{toZ-ofZ}
 use Rattle.rules.specs.Power.{powerRule}

@@ -1,4 +1,4 @@
--- `region3_c::r3_property` meets its contract. Assumes nothing.
+-- `region3_c::r3_property` meets its contract: the rule's answer, exported; its number is the caller's. Assumes nothing.
 use mathlib.Core.Path.{ap, _∙_}
 use lib.IntN.{ℤ}
 use mir.Facts.{toZ-ofZ}

@@ -1,4 +1,4 @@
--- `region3_c::r3_pv` meets its contract. Assumes nothing.
+-- `region3_c::r3_pv` meets its contract: the searched record's report, exported with its trials. Assumes nothing.
 use borrow.Author.Needs.{needs}
 use Rattle.region3_c.proofs.Exports.{exported-searched}
 use Rattle.region3_c.proofs.r3_pv.Statement.{statement}

@@ -1,4 +1,4 @@
--- `rows::page` meets its contract. Assumes nothing.
+-- `rows::page` meets its contract: the lines of the columns that the bytes hold are the lines of the bytes. Assumes nothing.
 use mathlib.Core.Path.{_≡_, ap, _∙_, subst}
 use mathlib.Core.List.{List}
 use Prim.Native.Nat.{ℕ}

@@ -1,50 +1,48 @@
 -- `secant::trial` meets its contract: each return by the tests that led there. Assumes nothing.
-use mathlib.Core.Path.{_≡_, sym, ap, _∙_}
-use lib.Ieee.{Float}
+use mathlib.Core.Path.{sym, _∙_}
+use lib.Ieee.{Float, binary64, add}
 use borrow.Author.Needs.{needs}
-use Rattle.common.specs.Formula.{Raw}
-use Rattle.common.proofs.Laws.{check-kept}
-use Rattle.secant.specs.Secant.{missingAt, liftedTo}
-use Rattle.secant.proofs.Steps.{next, trial-step-lost, trial-place-lost, trial-miss-lost, trial-made}
+use Rattle.common.proofs.Laws.{check-kept, check-lost}
+use Rattle.secant.specs.Secant.{trialBy}
+use Rattle.secant.specs.declared.Secant.{Secant}
+use Rattle.secant.proofs.Steps.{rawStep, step-is}
 use Rattle.secant.proofs.trial.Statement.{statement}
 use Rattle.secant.proofs.trial.Tie as tie
 
--- what is missing at the lifted place
-missed : (c : tie.After-missing) → let a = c .before .before .before .before .before .before .before .before .before .args in Raw (missingAt (a .curve) (a .y) (liftedTo (next (a .curve) (a .y) (a .s) (a .e)))) (c .missing .result)
-missed c =
-    let a = c .before .before .before .before .before .before .before .before .before .args in
-    record { is = ap (missingAt (a .curve) (a .y)) (sym (c .before .lifted .ensures)) ∙ c .missing .ensures .is }
+-- the place to which the step leads
+next : Secant → Float → Float
+next s e = add binary64 (s .x) (rawStep s e)
 
 returns : tie.Need-returns
+unfolding trialBy next
 returns c =
-    let m = c .before .before in
-    let k2 = m .before .before in
+    let k2 = c .before .before in
     let k1 = k2 .before .before .before in
-    rw (m .before .lifted .ensures)
-    (sym (trial-made _ _ _ _
-    (check-kept _ (sym (k1 .before .is-finite .ensures) ∙ k1 .if1 .taken)) _ (check-kept _ (sym (k2 .before .is-finite2 .ensures) ∙ k2 .if2 .taken))
-    (missed m) (check-kept _ (sym (c .before .is-finite3 .ensures) ∙ c .if3 .taken))))
+    let a = k1 .before .before .before .before .args in
+    rw (
+      step-is (a .s) (a .e),
+      check-kept (rawStep (a .s) (a .e)) (sym (k1 .before .is-finite .ensures) ∙ k1 .if1 .taken),
+      check-kept (next (a .s) (a .e)) (sym (k2 .before .is-finite2 .ensures) ∙ k2 .if2 .taken),
+    )
+    (rw (c .before .lifted .ensures) at (c .arrive .ensures))
 
 returns-2 : tie.Need-returns-2
+unfolding trialBy next
 returns-2 c =
-    let m = c .before .before in
-    let k2 = m .before .before in
-    let k1 = k2 .before .before .before in
-    sym (trial-miss-lost _ _ _ _
-    (check-kept _ (sym (k1 .before .is-finite .ensures) ∙ k1 .if1 .taken)) _ (check-kept _ (sym (k2 .before .is-finite2 .ensures) ∙ k2 .if2 .taken))
-    (missed m) (sym (c .before .is-finite3 .ensures) ∙ c .if3 .left))
+    let k1 = c .before .before .before in
+    let a = k1 .before .before .before .before .args in
+    rw (
+      step-is (a .s) (a .e),
+      check-kept (rawStep (a .s) (a .e)) (sym (k1 .before .is-finite .ensures) ∙ k1 .if1 .taken),
+      check-lost (next (a .s) (a .e)) (sym (c .before .is-finite2 .ensures) ∙ c .if2 .left),
+    )
 
 returns-3 : tie.Need-returns-3
+unfolding trialBy
 returns-3 c =
-    let k1 = c .before .before .before in
-    sym (trial-place-lost _ _ _ _ (check-kept _ (sym (k1 .before .is-finite .ensures) ∙ k1 .if1 .taken)) (sym (c .before .is-finite2 .ensures) ∙ c .if2 .left))
-
-returns-4 : tie.Need-returns-4
-returns-4 c = sym (trial-step-lost _ _ _ _ (sym (c .before .is-finite .ensures) ∙ c .if1 .left))
+    let a = c .before .before .before .before .args in
+    rw (step-is (a .s) (a .e), check-lost (rawStep (a .s) (a .e)) (sym (c .before .is-finite .ensures) ∙ c .if1 .left))
 
 pub trial-spec : {M : Type 1} → statement M
 trial-spec =
-    tie.close
-    (tie.spec
-    (λ c κs. search needs) (λ c κs. search needs) (λ c κs. search needs) (λ c κs. search needs) (λ c κs. search needs)
-    returns returns-2 returns-3 returns-4)
+    tie.close (tie.spec (λ c κs. search needs) (λ c κs. search needs) (λ c κs. search needs) (λ c κs. search needs) returns returns-2 returns-3)

@@ -1,4 +1,4 @@
--- `sizes::usual` meets its contract. Assumes nothing.
+-- `sizes::usual` meets its contract: both ends of the square are tested. Assumes nothing.
 use lib.Ieee.{ofBits}
 use Rattle.sizes.specs.Usual.{usualBase}
 use Rattle.sizes.proofs.usual.Statement.{statement}

@@ -1,10 +1,8 @@
 -- `slopes::factor` meets its contract, order by order.
-use mathlib.Core.Path.{_≡_}
 use lib.IntN.{pos, _-ℤ_}
 use mir.Syntax.{w64}
 use mir.ValLaws.{toZ-ofZ}
 use borrow.Author.Needs.{needs}
-use Rattle.algo.specs.declared.Order.the-variants.{Zero, One, Two}
 use Rattle.slopes.proofs.Whole.{Known, known, wide}
 use Rattle.slopes.proofs.factor.Statement.{statement}
 use Rattle.slopes.proofs.factor.Tie as tie
@@ -24,36 +22,19 @@ sub-power-in-2 c = let s = c .before .before .before in rw (wide _ (k-known s)) 
 returns : tie.Need-returns
 returns c =
     let s = c .before .before .before in
-    let e : s .args .d ≡ Zero = cc in
-    rw (e, rw (wide _ (k-known s)) at (c .power-in .ensures))
+    rw (c .before .enum-told .given .1, rw (wide _ (k-known s)) at (c .power-in .ensures))
 
 returns-2 : tie.Need-returns-2
 returns-2 c =
     let s = c .before .before .before .before in
-    let e : s .args .d ≡ One = cc in
-    rw (e, rw (wide _ (k-known s), toZ-ofZ w64 (s .args .k -ℤ pos 1) (k-known s .one-fits)) at (c .power-in2 .ensures), k-known s .same)
+    rw (c .before .before .enum-told2 .given .1, rw (wide _ (k-known s), toZ-ofZ w64 (s .args .k -ℤ pos 1) (k-known s .one-fits)) at (c .power-in2 .ensures), k-known s .same)
 
 returns-3 : tie.Need-returns-3
 returns-3 c =
     let s = c .before .before .before .before in
-    let e : s .args .d ≡ Two = cc in
-    rw (e, rw (wide _ (k-known s), toZ-ofZ w64 (s .args .k -ℤ pos 2) (k-known s .two-fits)) at (c .power-in3 .ensures), rw (k-known s .same) at (c .before .fallen .ensures))
+    rw (c .before .before .enum-told3 .given .1, rw (wide _ (k-known s), toZ-ofZ w64 (s .args .k -ℤ pos 2) (k-known s .two-fits)) at (c .power-in3 .ensures), rw (k-known s .same) at (c .before .fallen .ensures))
 
 pub factor-spec : {M : Type 1} → statement M
 factor-spec =
-    tie.close
-    (tie.spec
-    cast-n
-    (λ c. search needs)
-    (λ c κs. search needs)
-    (λ c. search needs)
-    (λ c. search needs)
-    sub-power-in
-    (λ c κs. search needs)
-    (λ c. search needs)
-    (λ c κs. search needs)
-    sub-power-in-2
-    (λ c κs. search needs)
-    returns
-    returns-2
-    returns-3)
+    tie.close (tie.spec cast-n (λ c. search needs) (λ c κs. search needs) (λ c. search needs) (λ c. search needs) sub-power-in (λ c κs. search needs)
+    (λ c. search needs) (λ c κs. search needs) sub-power-in-2 (λ c κs. search needs) returns returns-2 returns-3)

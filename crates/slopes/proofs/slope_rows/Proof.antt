@@ -1,7 +1,7 @@
 -- `slopes::slope_rows` meets its contract. The invariant: n is the shortest column's length, and what is left of the rows, added to the sum so far, is
 -- the whole sum.
 use mathlib.Core.Path.{_≡_, refl, sym, _∙_}
-use Prim.Native.Nat.{_-_, _≤_}
+use Prim.Native.Nat.{_-_}
 use native.Mathlib.Omega.{arith}
 use lib.IntN.{pos}
 use lib.Ieee.{ofBits}
@@ -52,9 +52,6 @@ shared-slice-read-factor c = within (c .before .before .before) .n
 add-k : tie.Need-add-k Inv-loop μ-loop
 add-k c = let w = within (c .before .before .before .before .before) in omega (arith, w .n)
 
-loop-less : tie.Need-loop-less Inv-loop μ-loop
-loop-less c = omega arith
-
 loop-again : tie.Need-loop-again Inv-loop μ-loop
 loop-again c =
     let l = c .before .before .before .before .before in
@@ -78,22 +75,6 @@ returns c =
 
 pub slope-rows-spec : {M : Type 1} → statement M
 slope-rows-spec =
-    tie.close
-    (tie.spec
-    Inv-loop
-    μ-loop
-    (λ c κs. search needs)
-    (λ c κs. search needs)
-    loop-holds
-    mul-factor
-    shared-slice-copy-out-factor
-    mul-factor-2
-    shared-slice-copy-out-factor-2
-    mul-factor-3
-    shared-slice-read-factor
-    (λ c κs. search needs)
-    (λ c κs. search needs)
-    add-k
-    loop-less
-    loop-again
-    returns)
+    tie.close (tie.spec Inv-loop μ-loop (λ c κs. search needs) (λ c κs. search needs) loop-holds mul-factor shared-slice-copy-out-factor mul-factor-2
+    shared-slice-copy-out-factor-2 mul-factor-3 shared-slice-read-factor (λ c κs. search needs) (λ c κs. search needs) add-k (λ c. omega arith)
+    loop-again returns)

@@ -1,4 +1,4 @@
--- `stdio::read_until_full` meets its contract. Assumes nothing.
+-- `stdio::read_until_full` meets its contract. The measure is what is left of the bytes. Assumes nothing.
 use mathlib.Core.Path.{_≡_}
 use Prim.Native.Nat.{_-_, _≤_}
 use borrow.Author.Needs.{needs}
@@ -13,37 +13,9 @@ Inv-loop what bytes₀ have₀ bytes have = (have ≤ length bytes) × (length b
 abbrev μ-loop : tie.MeasureT-loop
 μ-loop what bytes₀ have₀ bytes have = length bytes - have
 
-returns : tie.Need-returns Inv-loop μ-loop
-returns c = counts _ _ (search needs)
-
-returns-2 : tie.Need-returns-2 Inv-loop μ-loop
-returns-2 c = counts _ _ (search needs)
-
-returns-3 : tie.Need-returns-3 Inv-loop μ-loop
-returns-3 c = counts _ _ (search needs)
-
 pub read-until-full-spec : {M : Type 1} → statement M
 read-until-full-spec =
-    tie.close
-    (tie.spec
-    Inv-loop
-    μ-loop
-    (λ c. search needs)
-    (λ c. search needs)
-    (λ c. search needs)
-    (λ c. search needs)
-    (λ c κs. search needs)
-    (λ c κs. search needs)
-    (λ c. search needs)
-    returns
-    (λ c. search needs)
-    (λ c. search needs)
-    (λ c. search needs)
-    (λ c κs. search needs)
-    (λ c. search needs)
-    returns-2
-    (λ c. search needs)
-    (λ c. search needs)
-    (λ c. search needs)
-    (λ c. search needs)
-    returns-3)
+    tie.close (tie.spec Inv-loop μ-loop (λ c. search needs) (λ c. search needs) (λ c. search needs) (λ c. search needs) (λ c κs. search needs)
+    (λ c κs. search needs) (λ c. search needs) (λ c. counts _ _ (search needs)) (λ c. search needs) (λ c. search needs) (λ c. search needs)
+    (λ c κs. search needs) (λ c. search needs) (λ c. counts _ _ (search needs)) (λ c. search needs) (λ c. search needs) (λ c. search needs)
+    (λ c. search needs) (λ c. counts _ _ (search needs)))

@@ -7,7 +7,13 @@ use Rattle.subregion.proofs.ascii.Tie as tie
 
 pub ascii-spec : {M : Type 1} → statement M
 ascii-spec =
-    tie.close
-    (tie.spec
-    (λ c. search needs) (λ c. search needs) (λ c. search needs) (λ c. search needs) (λ c. search needs) (λ c. search needs) (λ c. search needs) (λ c. search needs) (λ c. search needs) (λ c. search needs) (λ c. search needs) (λ c. search needs) (λ c. search needs) (λ c. search needs) (λ c. search needs) (λ c. search needs) (λ c. search needs) (λ c. search needs) (λ c. search needs) (λ c. search needs) (λ c. search needs) (λ c. search needs) (λ c. search needs) (λ c. search needs) (λ c. search needs) (λ c. search needs)
-    (λ c. search (arm asciiOf)) (λ c. search (arm asciiOf)) (λ c. search (arm asciiOf)) (λ c. search (arm asciiOf)) (λ c. search (arm asciiOf)) (λ c. search (arm asciiOf)) (λ c. search (arm asciiOf)) (λ c. search (arm asciiOf)) (λ c. search (arm asciiOf)) (λ c. search (arm asciiOf)) (λ c. search (arm asciiOf)) (λ c. search (arm asciiOf)) (λ c. search (arm asciiOf)) (λ c. search (arm asciiOf)) (λ c. search (arm asciiOf)) (λ c. search (arm asciiOf)) (λ c. search (arm asciiOf)) (λ c. search (arm asciiOf)) (λ c. search (arm asciiOf)) (λ c. search (arm asciiOf)) (λ c. search (arm asciiOf)) (λ c. search (arm asciiOf)) (λ c. search (arm asciiOf)) (λ c. search (arm asciiOf)) (λ c. search (arm asciiOf)) (λ c. search (arm asciiOf)))
+    tie.close (tie.spec (λ c. search needs) (λ c. search needs) (λ c. search needs) (λ c. search needs) (λ c. search needs) (λ c. search needs)
+    (λ c. search needs) (λ c. search needs) (λ c. search needs) (λ c. search needs) (λ c. search needs) (λ c. search needs) (λ c. search needs)
+    (λ c. search needs) (λ c. search needs) (λ c. search needs) (λ c. search needs) (λ c. search needs) (λ c. search needs) (λ c. search needs)
+    (λ c. search needs) (λ c. search needs) (λ c. search needs) (λ c. search needs) (λ c. search needs) (λ c. search needs)
+    (λ c. search (arm asciiOf)) (λ c. search (arm asciiOf)) (λ c. search (arm asciiOf)) (λ c. search (arm asciiOf)) (λ c. search (arm asciiOf))
+    (λ c. search (arm asciiOf)) (λ c. search (arm asciiOf)) (λ c. search (arm asciiOf)) (λ c. search (arm asciiOf)) (λ c. search (arm asciiOf))
+    (λ c. search (arm asciiOf)) (λ c. search (arm asciiOf)) (λ c. search (arm asciiOf)) (λ c. search (arm asciiOf)) (λ c. search (arm asciiOf))
+    (λ c. search (arm asciiOf)) (λ c. search (arm asciiOf)) (λ c. search (arm asciiOf)) (λ c. search (arm asciiOf)) (λ c. search (arm asciiOf))
+    (λ c. search (arm asciiOf)) (λ c. search (arm asciiOf)) (λ c. search (arm asciiOf)) (λ c. search (arm asciiOf)) (λ c. search (arm asciiOf))
+    (λ c. search (arm asciiOf)))

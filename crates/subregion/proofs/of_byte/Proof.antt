@@ -25,7 +25,9 @@ rest b false h r = above b (beyond 25 98 b r (ltb-false b 98 h))
 
 pub of-byte-spec : {M : Type 1} → statement M
 of-byte-spec =
-    tie.close
-    (tie.spec
-    (λ c. search (arm ofByte)) (λ c. search (arm ofByte)) (λ c. search (arm ofByte)) (λ c. search (arm ofByte)) (λ c. search (arm ofByte)) (λ c. search (arm ofByte)) (λ c. search (arm ofByte)) (λ c. search (arm ofByte)) (λ c. search (arm ofByte)) (λ c. search (arm ofByte)) (λ c. search (arm ofByte)) (λ c. search (arm ofByte)) (λ c. search (arm ofByte)) (λ c. search (arm ofByte)) (λ c. search (arm ofByte)) (λ c. search (arm ofByte)) (λ c. search (arm ofByte)) (λ c. search (arm ofByte)) (λ c. search (arm ofByte)) (λ c. search (arm ofByte)) (λ c. search (arm ofByte)) (λ c. search (arm ofByte)) (λ c. search (arm ofByte)) (λ c. search (arm ofByte)) (λ c. search (arm ofByte))
-    (λ c. rest (c .before .args .b) _ refl (none-of (c .before .args .b) (run 25 98) (c .match .rest))))
+    tie.close (tie.spec (λ c. search (arm ofByte)) (λ c. search (arm ofByte)) (λ c. search (arm ofByte)) (λ c. search (arm ofByte))
+    (λ c. search (arm ofByte)) (λ c. search (arm ofByte)) (λ c. search (arm ofByte)) (λ c. search (arm ofByte)) (λ c. search (arm ofByte))
+    (λ c. search (arm ofByte)) (λ c. search (arm ofByte)) (λ c. search (arm ofByte)) (λ c. search (arm ofByte)) (λ c. search (arm ofByte))
+    (λ c. search (arm ofByte)) (λ c. search (arm ofByte)) (λ c. search (arm ofByte)) (λ c. search (arm ofByte)) (λ c. search (arm ofByte))
+    (λ c. search (arm ofByte)) (λ c. search (arm ofByte)) (λ c. search (arm ofByte)) (λ c. search (arm ofByte)) (λ c. search (arm ofByte))
+    (λ c. search (arm ofByte)) (λ c. rest (c .before .args .b) _ refl (none-of (c .before .args .b) (run 25 98) (c .match .rest))))

@@ -8,5 +8,4 @@ returns c = rw (c .before .enum-told .given .1) (c .state-p .ensures)
 
 pub pressure-of-spec : {M : Type 1} → statement M
 pressure-of-spec =
-    tie.close
-    (tie.spec (λ c. search needs) (λ c κs. search needs) (λ c. search needs) (λ c κs. search needs) returns (λ c. search needs))
+    tie.close (tie.spec (λ c. search needs) (λ c κs. search needs) (λ c. search needs) (λ c κs. search needs) returns (λ c. search needs))

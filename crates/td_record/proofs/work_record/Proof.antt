@@ -1,53 +1,39 @@
 -- `td_record::work_record`: by what v and p come to.
 use mathlib.Core.Path.{_≡_, sym, ap, _∙_}
-use mathlib.Core.Bool.{true, false}
 use borrow.Author.Needs.{needs}
-use Rattle.common.specs.Outcome.{finite}
+use Rattle.common.specs.Outcome.{then}
 use Rattle.common.specs.Answer.{paper}
+use Rattle.common.specs.declared.Answer.{Answer}
+use Rattle.common.proofs.Laws.{check-kept, check-lost}
 use Rattle.record.specs.Record.{report}
-use Rattle.td_record.proofs.RecordSteps.{steps-value, steps-refused, steps-lost, record-with}
+use Rattle.td_record.specs.Steps.{recordAfter, recordSteps}
+use Rattle.td_record.proofs.RecordSteps.{record-with}
 use Rattle.td_record.proofs.work_record.Statement.{statement}
 use Rattle.td_record.proofs.work_record.Tie as tie
+
+-- the steps, from the p that was answered
+answered : (m : tie.After-pressure-of) (p : Answer) → m .pressure-of .result ≡ p → let a = m .before .before .before .args in
+    then (paper p) (recordAfter (a .t .0) (a .d .0) (a .v)) ≡ recordSteps (a .t .0) (a .d .0) (a .v) (a .pressure)
+unfolding recordSteps
+answered m p e =
+    let f = check-kept (m .before .before .before .args .v) (sym (m .before .before .is-finite .ensures) ∙ m .before .if1 .taken) in
+    rw (f, sym (m .pressure-of .ensures) ∙ ap paper e)
 
 returns : tie.Need-returns
 returns c =
     let both = c .before .before .raw-cp-w .ensures in
     let s = c .before .before .before .before in
-    let m = s .before .before in
-    let a = m .before .before .before .args in
-    let f : finite (a .v) ≡ true = cc in
-    let p = sym (m .pressure-of .ensures) ∙ ap paper (s .p .given .1) in
-    let fields = record-with (a .t .0) (a .d .0) (a .v) _ (both .0) (both .1) ∙ c .before .worked-fields .ensures in
-    c .accept-complete .ensures ∙ ap report (sym fields ∙ sym (steps-value _ _ _ (a .pressure) _ f p))
+    let fields = record-with _ _ _ _ (both .0) (both .1) ∙ c .before .worked-fields .ensures in
+    c .accept-complete .ensures ∙ ap report (sym fields ∙ answered (s .before .before) _ (s .p .given .1))
 
 returns-2 : tie.Need-returns-2
-returns-2 c =
-    let s = c .before .before in
-    let m = s .before .before in
-    let a = m .before .before .before .args in
-    let f : finite (a .v) ≡ true = cc in
-    let p = sym (m .pressure-of .ensures) ∙ ap paper (s .k .given .1) in
-    c .refuse .ensures ∙ ap report (sym (steps-refused _ _ _ (a .pressure) _ f p))
+returns-2 c = let s = c .before .before in c .refuse .ensures ∙ ap report (answered (s .before .before) _ (s .k .given .1))
 
 returns-3 : tie.Need-returns-3
-returns-3 c =
-    let a = c .before .before .before .args in
-    let l : finite (a .v) ≡ false = cc in
-    c .refuse2 .ensures ∙ ap report (sym (steps-lost _ _ _ (a .pressure) l))
+unfolding recordSteps
+returns-3 c = rw (check-lost (c .before .before .before .args .v) (sym (c .before .before .is-finite .ensures) ∙ c .before .if1 .left)) (c .refuse2 .ensures)
 
 pub work-record-spec : {M : Type 1} → statement M
 work-record-spec =
-    tie.close
-    (tie.spec
-    (λ c κs. search needs)
-    (λ c κs. search needs)
-    (λ c. search needs)
-    (λ c κs. search needs)
-    (λ c κs. search needs)
-    (λ c κs. search needs)
-    (λ c. search needs)
-    (λ c κs. search needs)
-    returns
-    returns-2
-    (λ c κs. search needs)
-    returns-3)
+    tie.close (tie.spec (λ c κs. search needs) (λ c κs. search needs) (λ c. search needs) (λ c κs. search needs) (λ c κs. search needs)
+    (λ c κs. search needs) (λ c. search needs) (λ c κs. search needs) returns returns-2 (λ c κs. search needs) returns-3)

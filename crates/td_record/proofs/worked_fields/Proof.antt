@@ -17,6 +17,4 @@ returns c =
     (λ _. at-last _ _ (raw-check (both .w)) refl)))))
 
 pub worked-fields-spec : {M : Type 1} → statement M
-worked-fields-spec =
-    tie.close
-    (tie.spec (λ c κs. search needs) (λ c κs. search needs) (λ c κs. search needs) (λ c κs. search needs) returns)
+worked-fields-spec = tie.close (tie.spec (λ c κs. search needs) (λ c κs. search needs) (λ c κs. search needs) (λ c κs. search needs) returns)

@@ -1,10 +1,8 @@
--- `text::put_decimal` meets its contract. Assumes nothing.
-use mathlib.Core.Path.{_≡_, refl, sym}
-use mathlib.Core.Bool.{true, false}
+-- `text::put_decimal` meets its contract: a number has twenty digits at most. Assumes nothing.
+use mathlib.Core.Path.{refl, sym, _∙_}
 use Prim.Native.Nat.{_+_, _≤_}
 use native.Mathlib.Nat.{add-zero}
 use native.Mathlib.Omega.{arith}
-use lib.Dec.{leb}
 use lib.ListN.{length}
 use borrow.Author.Tests.{leb-true}
 use borrow.Author.Needs.{needs}
@@ -16,20 +14,16 @@ digits-requires : tie.Need-digits-requires
 digits-requires c κs =
     let s = c .before .before .before .before in
     let a = s .args in
-    let h : a .at + 20 ≤ length (a .out .now) = leb-true _ _ (cc) in
+    let h : a .at + 20 ≤ length (a .out .now) = leb-true _ _ (sym (c .before .before .lies .ensures) ∙ c .before .if1 .taken) in
     omega (arith, h, decimal-room (a .n) (s .fits .n .fits))
 
 returns : tie.Need-returns
 returns c =
-    let a = c .before .before .before .before .before .before .before .args in
-    let h : leb (a .at + 20) (length (a .out .now)) ≡ true = cc in
-    rw h (c .before .before .digits .ensures)
+    let d = c .before .before .before .before in
+    rw (← d .before .lies .ensures, d .if1 .taken) (c .before .before .digits .ensures)
 
 returns-2 : tie.Need-returns-2
-returns-2 c =
-    let a = c .before .before .before .args in
-    let h : leb (a .at + 20) (length (a .out .now)) ≡ false = cc in
-    rw h (record { ends = sym (add-zero (a .at)); holds = refl })
+returns-2 c = rw (← c .before .lies .ensures, c .if1 .left) (record { ends = sym (add-zero _); holds = refl })
 
 pub put-decimal-spec : {M : Type 1} → statement M
 put-decimal-spec = tie.close (tie.spec (λ c κs. search needs) digits-requires (λ c. search needs) returns returns-2)

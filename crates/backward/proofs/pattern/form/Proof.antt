@@ -1,4 +1,4 @@
--- `backward::form` meets its contract: the numbers of each arm are the printed decimals. Assumes nothing.
+-- `backward::form`: the numbers of each arm are the printed decimals.
 use mathlib.Core.Path.{sym, ap}
 use lib.Ieee.{ofBits}
 use borrow.Author.Needs.{needs}
@@ -10,25 +10,9 @@ use Rattle.backward.proofs.pattern.form.Tie as tie
 pub form-spec : {M : Type 1} → statement M
 unfolding ofBits decimal whole scaled
 form-spec =
-    tie.close
-    (tie.spec
-    (λ c. search needs)
-    (λ c. search needs)
-    (λ c. search needs)
-    (λ c. search needs)
-    (λ c. search needs)
-    (λ c. search needs)
-    (λ c. search needs)
-    (λ c. search needs)
-    (λ c. search needs)
-    (λ c. search needs)
-    (λ c. sym (ap formOf (c .enum-told .given .1)))
-    (λ c. sym (ap formOf (c .enum-told2 .given .1)))
-    (λ c. sym (ap formOf (c .enum-told3 .given .1)))
-    (λ c. sym (ap formOf (c .enum-told4 .given .1)))
-    (λ c. sym (ap formOf (c .enum-told5 .given .1)))
-    (λ c. sym (ap formOf (c .enum-told6 .given .1)))
-    (λ c. sym (ap formOf (c .enum-told7 .given .1)))
-    (λ c. sym (ap formOf (c .enum-told8 .given .1)))
-    (λ c. sym (ap formOf (c .enum-told9 .given .1)))
+    tie.close (tie.spec (λ c. search needs) (λ c. search needs) (λ c. search needs) (λ c. search needs) (λ c. search needs) (λ c. search needs)
+    (λ c. search needs) (λ c. search needs) (λ c. search needs) (λ c. search needs) (λ c. sym (ap formOf (c .enum-told .given .1)))
+    (λ c. sym (ap formOf (c .enum-told2 .given .1))) (λ c. sym (ap formOf (c .enum-told3 .given .1))) (λ c. sym (ap formOf (c .enum-told4 .given .1)))
+    (λ c. sym (ap formOf (c .enum-told5 .given .1))) (λ c. sym (ap formOf (c .enum-told6 .given .1))) (λ c. sym (ap formOf (c .enum-told7 .given .1)))
+    (λ c. sym (ap formOf (c .enum-told8 .given .1))) (λ c. sym (ap formOf (c .enum-told9 .given .1)))
     (λ c. sym (ap formOf (c .enum-told10 .given .1))))

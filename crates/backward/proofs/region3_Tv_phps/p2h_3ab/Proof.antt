@@ -1,4 +1,4 @@
--- `backward::p2h_3ab` meets its contract: the proof has the shape of the equation. Assumes nothing.
+-- `backward::p2h_3ab`: the proof has the shape of the equation.
 use Rattle.common.proofs.Formulas.{raw-value, raw-add, raw-mul, raw-first, raw-times}
 use mathlib.Core.Path.{refl, sym}
 use lib.Ieee.{binary64, div, neg, ofBits, round}

@@ -1,4 +1,4 @@
--- `backward::side_ph` meets its contract: the dividing line, lost or kept, then the comparison with it. Assumes nothing.
+-- `backward::side_ph`: the dividing line, lost or kept, then the comparison with it.
 use mathlib.Core.Path.{sym, _∙_}
 use borrow.Author.Needs.{needs}
 use Rattle.common.proofs.Laws.{check-kept, check-lost}

@@ -1,4 +1,4 @@
--- `backward::side_s` meets its contract: by the comparison with the critical entropy. Assumes nothing.
+-- `backward::side_s`: by the comparison with the critical entropy.
 use lib.Ieee.{ofBits}
 use Rattle.common.specs.Decimal.{decimal, scaled}
 use Rattle.backward.proofs.region3_Tv_phps.side_s.Statement.{statement}

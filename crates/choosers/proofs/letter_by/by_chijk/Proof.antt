@@ -1,4 +1,4 @@
--- `boundary::letter_by::by_chijk` meets its contract. Assumes nothing.
+-- `choosers::letter_by::by_chijk` meets its contract: letter after letter. Assumes nothing.
 use borrow.Author.Needs.{needs}
 use Rattle.choosers.proofs.letter_by.by_chijk.Statement.{statement}
 use Rattle.choosers.proofs.letter_by.by_chijk.Tie as tie
@@ -8,11 +8,4 @@ returns c = rw (c .upto5 .ensures, c .before .upto4 .ensures, c .before .before 
 
 pub by-chijk-spec : {M : Type 1} → statement M
 by-chijk-spec =
-    tie.close
-    (tie.spec
-    (λ c κs. search needs)
-    (λ c κs. search needs)
-    (λ c κs. search needs)
-    (λ c κs. search needs)
-    (λ c κs. search needs)
-    returns)
+    tie.close (tie.spec (λ c κs. search needs) (λ c κs. search needs) (λ c κs. search needs) (λ c κs. search needs) (λ c κs. search needs) returns)

@@ -1,4 +1,4 @@
--- `boundary::letter_by::by_clmnopjk` meets its contract. Assumes nothing.
+-- `choosers::letter_by::by_clmnopjk` meets its contract: letter after letter. Assumes nothing.
 use borrow.Author.Needs.{needs}
 use Rattle.choosers.proofs.letter_by.by_clmnopjk.Statement.{statement}
 use Rattle.choosers.proofs.letter_by.by_clmnopjk.Tie as tie
@@ -8,13 +8,5 @@ returns c = rw (c .upto7 .ensures, c .before .upto6 .ensures, c .before .before 
 
 pub by-clmnopjk-spec : {M : Type 1} → statement M
 by-clmnopjk-spec =
-    tie.close
-    (tie.spec
-    (λ c κs. search needs)
-    (λ c κs. search needs)
-    (λ c κs. search needs)
-    (λ c κs. search needs)
-    (λ c κs. search needs)
-    (λ c κs. search needs)
-    (λ c κs. search needs)
-    returns)
+    tie.close (tie.spec (λ c κs. search needs) (λ c κs. search needs) (λ c κs. search needs) (λ c κs. search needs) (λ c κs. search needs)
+    (λ c κs. search needs) (λ c κs. search needs) returns)

@@ -1,10 +1,9 @@
--- `boundary::letter_by::by_csrk` meets its contract. Assumes nothing.
+-- `choosers::letter_by::by_csrk` meets its contract: letter after letter. Assumes nothing.
 use borrow.Author.Needs.{needs}
 use Rattle.choosers.proofs.letter_by.by_csrk.Statement.{statement}
 use Rattle.choosers.proofs.letter_by.by_csrk.Tie as tie
 
-returns : tie.Need-returns
-returns c = rw (c .upto3 .ensures, c .before .upto2 .ensures, c .before .before .upto .ensures)
-
 pub by-csrk-spec : {M : Type 1} → statement M
-by-csrk-spec = tie.close (tie.spec (λ c κs. search needs) (λ c κs. search needs) (λ c κs. search needs) returns)
+by-csrk-spec =
+    tie.close (tie.spec (λ c κs. search needs) (λ c κs. search needs) (λ c κs. search needs)
+    (λ c. rw (c .upto3 .ensures, c .before .upto2 .ensures, c .before .before .upto .ensures)))

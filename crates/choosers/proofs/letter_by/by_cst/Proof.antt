@@ -1,10 +1,7 @@
--- `boundary::letter_by::by_cst` meets its contract. Assumes nothing.
+-- `choosers::letter_by::by_cst` meets its contract: letter after letter. Assumes nothing.
 use borrow.Author.Needs.{needs}
 use Rattle.choosers.proofs.letter_by.by_cst.Statement.{statement}
 use Rattle.choosers.proofs.letter_by.by_cst.Tie as tie
 
-returns : tie.Need-returns
-returns c = rw (c .upto2 .ensures, c .before .upto .ensures)
-
 pub by-cst-spec : {M : Type 1} → statement M
-by-cst-spec = tie.close (tie.spec (λ c κs. search needs) (λ c κs. search needs) returns)
+by-cst-spec = tie.close (tie.spec (λ c κs. search needs) (λ c κs. search needs) (λ c. rw (c .upto2 .ensures, c .before .upto .ensures)))

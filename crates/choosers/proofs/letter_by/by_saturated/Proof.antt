@@ -1,4 +1,4 @@
--- `boundary::letter_by::by_saturated` meets its contract. Assumes nothing.
+-- `choosers::letter_by::by_saturated` meets its contract: on either side of the saturation temperature. Assumes nothing.
 use borrow.Author.Needs.{needs}
 use Rattle.choosers.proofs.letter_by.by_saturated.Statement.{statement}
 use Rattle.choosers.proofs.letter_by.by_saturated.Tie as tie

@@ -1,4 +1,4 @@
--- `boundary::letter_by::by_steam` meets its contract. Assumes nothing.
+-- `choosers::letter_by::by_steam` meets its contract: by p and then by 3wx. Assumes nothing.
 use lib.Ieee.{ofBits, round}
 use Rattle.common.specs.Decimal.{decimal, scaled}
 use borrow.Author.Needs.{needs}

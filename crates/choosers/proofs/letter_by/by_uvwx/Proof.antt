@@ -1,10 +1,9 @@
--- `boundary::letter_by::by_uvwx` meets its contract. Assumes nothing.
+-- `choosers::letter_by::by_uvwx` meets its contract: letter after letter. Assumes nothing.
 use borrow.Author.Needs.{needs}
 use Rattle.choosers.proofs.letter_by.by_uvwx.Statement.{statement}
 use Rattle.choosers.proofs.letter_by.by_uvwx.Tie as tie
 
-returns : tie.Need-returns
-returns c = rw (c .upto .ensures, c .before .under2 .ensures, c .before .before .under .ensures)
-
 pub by-uvwx-spec : {M : Type 1} → statement M
-by-uvwx-spec = tie.close (tie.spec (λ c κs. search needs) (λ c κs. search needs) (λ c κs. search needs) returns)
+by-uvwx-spec =
+    tie.close (tie.spec (λ c κs. search needs) (λ c κs. search needs) (λ c κs. search needs)
+    (λ c. rw (c .upto .ensures, c .before .under2 .ensures, c .before .before .under .ensures)))

@@ -1,4 +1,4 @@
--- `column_run::columns` meets its contract. Assumes nothing.
+-- `column_run::columns`: by whether the five lengths are one: then the two turns, one after the other.
 use mathlib.Core.Path.{_≡_, sym, _∙_}
 use lib.ListN.{length}
 use borrow.Author.Needs.{needs}
@@ -33,13 +33,5 @@ returns-2 c = rw (sym (c .before .same-length .ensures) ∙ c .if1 .left)
 
 pub columns-spec : {M : Type 1} → statement M
 columns-spec =
-    tie.close
-    (tie.spec
-    (λ c κs. search needs)
-    mark-rows-requires
-    fill-rows-requires
-    (λ c. search needs)
-    (λ c. search needs)
-    (λ c. search needs)
-    returns
-    returns-2)
+    tie.close (tie.spec (λ c κs. search needs) mark-rows-requires fill-rows-requires (λ c. search needs) (λ c. search needs) (λ c. search needs)
+    returns returns-2)

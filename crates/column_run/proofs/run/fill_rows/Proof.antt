@@ -1,5 +1,5 @@
--- `column_run::fill_rows` meets its contract: after i turns the first i rows of each column are written, and the others hold their
--- marks. Assumes nothing.
+-- `column_run::fill_rows`: after i turns the first i rows of each column are written, and the others hold their
+-- marks.
 use Prim.Native.Nat.{_≤_, _<_, _-_}
 use mathlib.Core.Path.{_≡_, refl, ap, _∙_}
 use native.Mathlib.Omega.{arith}
@@ -25,14 +25,13 @@ abbrev μ-loop : tie.MeasureT-loop
 
 loop-holds : tie.Need-loop-holds Inv-loop μ-loop
 loop-holds c =
-    let s = c .before .before .before .before .before in
-    let a = s .args in (
+    let q = c .before .before .before .before .before .pre in (
       omega arith,
-      filled-none letterIn 0 (a .ps .now) (a .ts .now) (a .letters .now) (rows-long markIn 0 (a .ps .now) (a .ts .now) (a .letters .now) (s .pre .0) (s .pre .2)),
-      filled-none densityIn nan (a .ps .now) (a .ts .now) (a .densities .now) (s .pre .1),
-      filled-none refusalIn 0 (a .ps .now) (a .ts .now) (a .refusals .now) (rows-long stopIn 0 (a .ps .now) (a .ts .now) (a .refusals .now) (s .pre .0) (s .pre .3)),
-      left-all markIn 0 (a .ps .now) (a .ts .now) (a .letters .now) (s .pre .0) (s .pre .2),
-      left-all stopIn 0 (a .ps .now) (a .ts .now) (a .refusals .now) (s .pre .0) (s .pre .3),
+      filled-none letterIn 0 _ _ _ (rows-long markIn 0 _ _ _ (q .0) (q .2)),
+      filled-none densityIn nan _ _ _ (q .1),
+      filled-none refusalIn 0 _ _ _ (rows-long stopIn 0 _ _ _ (q .0) (q .3)),
+      left-all markIn 0 _ _ _ (q .0) (q .2),
+      left-all stopIn 0 _ _ _ (q .0) (q .3),
     )
 
 loop-again : tie.Need-loop-again Inv-loop μ-loop
@@ -40,69 +39,37 @@ loop-again c =
     let l = c .before .before .before .before .before .before in
     let a = l .before .before .before .before .before .before .args in
     let i = l .loop .i in
+    let v = l .loop .inv in
     let h : i < length (a .ps .now) = omega arith in
     let p = getD (a .ps .now) i nan in
     let t = getD (a .ts .now) i nan in
-    let m : getD (l .loop .letters) i 0 ≡ markIn p t = l .loop .inv .4 .each i (omega arith) h in
-    let k : getD (l .loop .refusals) i 0 ≡ stopIn p t = l .loop .inv .5 .each i (omega arith) h in
+    let m : getD (l .loop .letters) i 0 ≡ markIn p t = v .4 .each i (omega arith) h in
+    let k : getD (l .loop .refusals) i 0 ≡ stopIn p t = v .5 .each i (omega arith) h in
     let e : c .line-of .result ≡ rowRule p t = c .line-of .ensures ∙ rw (m, k) (row-is (originRule p t) p t refl) in (
       omega arith,
-      filled-more letterIn 0 (a .ps .now) (a .ts .now) i (l .loop .letters) (c .line-of .result .letter) h (l .loop .inv .1) (ap (λ (r : Line). r .letter) e),
-      filled-more densityIn nan (a .ps .now) (a .ts .now) i (l .loop .densities) (c .line-of .result .density) h (l .loop .inv .2) (ap (λ (r : Line). r .density) e),
-      filled-more refusalIn 0 (a .ps .now) (a .ts .now) i (l .loop .refusals) (c .line-of .result .refusal) h (l .loop .inv .3) (ap (λ (r : Line). r .refusal) e),
-      left-less markIn 0 (a .ps .now) (a .ts .now) i (l .loop .letters) (c .line-of .result .letter) (l .loop .inv .4),
-      left-less stopIn 0 (a .ps .now) (a .ts .now) i (l .loop .refusals) (c .line-of .result .refusal) (l .loop .inv .5),
+      filled-more letterIn 0 _ _ _ _ _ h (v .1) (ap (λ (r : Line). r .letter) e),
+      filled-more densityIn nan _ _ _ _ _ h (v .2) (ap (λ (r : Line). r .density) e),
+      filled-more refusalIn 0 _ _ _ _ _ h (v .3) (ap (λ (r : Line). r .refusal) e),
+      left-less markIn 0 _ _ _ _ _ (v .4),
+      left-less stopIn 0 _ _ _ _ _ (v .5),
     )
 
 same-length : tie.Need-same-length Inv-loop μ-loop
-same-length c =
-    let s = c .before .before .before .before .before .before .before in
-    let a = s .args in
-    let e = rows-long markIn 0 (a .ps .now) (a .ts .now) (a .letters .now) (s .pre .0) (s .pre .2) in
-    omega arith
+same-length c = let s = c .before .before .before .before .before .before .before in let e = rows-long markIn 0 _ _ _ (s .pre .0) (s .pre .2) in omega arith
 
 same-length-3 : tie.Need-same-length-3 Inv-loop μ-loop
-same-length-3 c =
-    let s = c .before .before .before .before .before .before .before in
-    let a = s .args in
-    let e = rows-long stopIn 0 (a .ps .now) (a .ts .now) (a .refusals .now) (s .pre .0) (s .pre .3) in
-    omega arith
+same-length-3 c = let s = c .before .before .before .before .before .before .before in let e = rows-long stopIn 0 _ _ _ (s .pre .0) (s .pre .3) in omega arith
 
 returns : tie.Need-returns Inv-loop μ-loop
 returns c =
     let l = c .before in
-    let s = l .before .before .before .before .before .before in
-    let a = s .args in
-    let i = l .loop .i in (
-      filled-all letterIn 0 (a .ps .now) (a .ts .now) i (l .loop .letters) (s .pre .0) (c .loop-test .left) (l .loop .inv .1),
-      (
-        filled-all densityIn nan (a .ps .now) (a .ts .now) i (l .loop .densities) (s .pre .0) (c .loop-test .left) (l .loop .inv .2),
-        filled-all refusalIn 0 (a .ps .now) (a .ts .now) i (l .loop .refusals) (s .pre .0) (c .loop-test .left) (l .loop .inv .3),
-      ),
-    )
+    let e = l .before .before .before .before .before .before .pre .0 in
+    let v = l .loop .inv in
+    let o = c .loop-test .left in
+    (filled-all letterIn 0 _ _ _ _ e o (v .1), (filled-all densityIn nan _ _ _ _ e o (v .2), filled-all refusalIn 0 _ _ _ _ e o (v .3)))
 
 pub fill-rows-spec : {M : Type 1} → statement M
 fill-rows-spec =
-    tie.close
-    (tie.spec
-    Inv-loop
-    μ-loop
-    loop-holds
-    (λ c. omega arith)
-    (λ c. omega arith)
-    (λ c. omega arith)
-    (λ c. omega arith)
-    (λ c. omega arith)
-    (λ c. omega arith)
-    (λ c κs. search needs)
-    (λ c. omega arith)
-    (λ c. omega arith)
-    (λ c. omega arith)
-    (λ c. omega arith)
-    (λ c. omega arith)
-    (λ c. omega arith)
-    loop-again
-    same-length
-    (λ c. omega arith)
-    same-length-3
-    returns)
+    tie.close (tie.spec Inv-loop μ-loop loop-holds (λ c. omega arith) (λ c. omega arith) (λ c. omega arith) (λ c. omega arith) (λ c. omega arith)
+    (λ c. omega arith) (λ c κs. search needs) (λ c. omega arith) (λ c. omega arith) (λ c. omega arith) (λ c. omega arith) (λ c. omega arith)
+    (λ c. omega arith) loop-again same-length (λ c. omega arith) same-length-3 returns)

@@ -1,4 +1,4 @@
--- `column_run::mark` meets its contract. Assumes nothing.
+-- `column_run::mark`: by the case of the origin.
 use borrow.Author.Needs.{needs}
 use Rattle.column_run.proofs.run.mark.Statement.{statement}
 use Rattle.column_run.proofs.run.mark.Tie as tie
@@ -11,13 +11,5 @@ returns c =
 
 pub mark-spec : {M : Type 1} → statement M
 mark-spec =
-    tie.close
-    (tie.spec
-    (λ c. search needs)
-    (λ c. search needs)
-    (λ c κs. search needs)
-    (λ c. search needs)
-    (λ c. search needs)
-    returns
-    (λ c. search needs)
-    (λ c. search needs))
+    tie.close (tie.spec (λ c. search needs) (λ c. search needs) (λ c κs. search needs) (λ c. search needs) (λ c. search needs) returns
+    (λ c. search needs) (λ c. search needs))

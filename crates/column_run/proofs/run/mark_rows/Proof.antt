@@ -1,4 +1,4 @@
--- `column_run::mark_rows` meets its contract: after k turns the first k rows of each column are written. Assumes nothing.
+-- `column_run::mark_rows`: after k turns the first k rows of each column are written.
 use Prim.Native.Nat.{_≤_, _<_, _-_}
 use mathlib.Core.Path.{ap, _∙_}
 use native.Mathlib.Omega.{arith}
@@ -18,52 +18,26 @@ abbrev μ-loop : tie.MeasureT-loop
 μ-loop ps ts letters₀ refusals₀ k₀ letters refusals k = length ps - k
 
 loop-holds : tie.Need-loop-holds Inv-loop μ-loop
-loop-holds c =
-    let s = c .before .before .before .before in
-    let a = s .args in
-    (omega arith, filled-none markIn 0 (a .ps .now) (a .ts .now) (a .letters .now) (s .pre .1), filled-none stopIn 0 (a .ps .now) (a .ts .now) (a .refusals .now) (s .pre .2))
+loop-holds c = let s = c .before .before .before .before in (omega arith, filled-none markIn 0 _ _ _ (s .pre .1), filled-none stopIn 0 _ _ _ (s .pre .2))
 
 loop-again : tie.Need-loop-again Inv-loop μ-loop
 loop-again c =
     let l = c .before .before .before .before .before .before in
-    let a = l .before .before .before .before .before .args in
-    let k = l .loop .k in
-    let h : k < length (a .ps .now) = omega arith in
+    let h : l .loop .k < length (l .before .before .before .before .before .args .ps .now) = omega arith in
     let e = c .before .before .origin-pT .ensures in (
       omega arith,
-      filled-more markIn 0 (a .ps .now) (a .ts .now) k (l .loop .letters) (c .before .mark .result) h (l .loop .inv .1) (c .before .mark .ensures ∙ ap markOf e),
-      filled-more stopIn 0 (a .ps .now) (a .ts .now) k (l .loop .refusals) (c .stop .result) h (l .loop .inv .2) (c .stop .ensures ∙ ap (λ (q : Outcome Origin). numberIn q) e),
+      filled-more markIn 0 _ _ _ _ _ h (l .loop .inv .1) (c .before .mark .ensures ∙ ap markOf e),
+      filled-more stopIn 0 _ _ _ _ _ h (l .loop .inv .2) (c .stop .ensures ∙ ap (λ (q : Outcome Origin). numberIn q) e),
     )
 
 returns : tie.Need-returns Inv-loop μ-loop
 returns c =
     let l = c .before in
-    let s = l .before .before .before .before .before in
-    let a = s .args in
-    let k = l .loop .k in (
-      filled-all markIn 0 (a .ps .now) (a .ts .now) k (l .loop .letters) (s .pre .0) (c .loop-test .left) (l .loop .inv .1),
-      filled-all stopIn 0 (a .ps .now) (a .ts .now) k (l .loop .refusals) (s .pre .0) (c .loop-test .left) (l .loop .inv .2),
-    )
+    let e = l .before .before .before .before .before .pre .0 in
+    (filled-all markIn 0 _ _ _ _ e (c .loop-test .left) (l .loop .inv .1), filled-all stopIn 0 _ _ _ _ e (c .loop-test .left) (l .loop .inv .2))
 
 pub mark-rows-spec : {M : Type 1} → statement M
 mark-rows-spec =
-    tie.close
-    (tie.spec
-    Inv-loop
-    μ-loop
-    loop-holds
-    (λ c. omega arith)
-    (λ c. omega arith)
-    (λ c. omega arith)
-    (λ c. omega arith)
-    (λ c κs. search needs)
-    (λ c κs. search needs)
-    (λ c. omega arith)
-    (λ c κs. search needs)
-    (λ c. omega arith)
-    (λ c. omega arith)
-    (λ c. omega arith)
-    loop-again
-    (λ c. omega arith)
-    (λ c. omega arith)
-    returns)
+    tie.close (tie.spec Inv-loop μ-loop loop-holds (λ c. omega arith) (λ c. omega arith) (λ c. omega arith) (λ c. omega arith) (λ c κs. search needs)
+    (λ c κs. search needs) (λ c. omega arith) (λ c κs. search needs) (λ c. omega arith) (λ c. omega arith) (λ c. omega arith) loop-again
+    (λ c. omega arith) (λ c. omega arith) returns)

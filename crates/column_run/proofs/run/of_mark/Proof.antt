@@ -1,4 +1,4 @@
--- `column_run::of_mark` meets its contract. Assumes nothing.
+-- `column_run::of_mark`: by whether the mark is that of the critical point.
 use borrow.Author.Tests.{eq-eqb, ne-eqb}
 use borrow.Author.Needs.{needs}
 use Rattle.column_run.proofs.run.of_mark.Statement.{statement}

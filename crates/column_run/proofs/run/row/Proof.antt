@@ -1,4 +1,4 @@
--- `column_run::row` meets its contract. Assumes nothing.
+-- `column_run::row`: the two turns of one row (TwoTurns).
 use borrow.Author.Needs.{needs}
 use Rattle.column_run.proofs.TwoTurns.{row-is}
 use Rattle.column_run.proofs.run.row.Statement.{statement}
@@ -12,5 +12,4 @@ returns c =
     rw (c .line-of .ensures, m .mark .ensures, s .stop .ensures) (row-is _ _ _ (o .origin-pT .ensures))
 
 pub row-spec : {M : Type 1} → statement M
-row-spec =
-    tie.close (tie.spec (λ c κs. search needs) (λ c κs. search needs) (λ c κs. search needs) (λ c κs. search needs) returns)
+row-spec = tie.close (tie.spec (λ c κs. search needs) (λ c κs. search needs) (λ c κs. search needs) (λ c κs. search needs) returns)

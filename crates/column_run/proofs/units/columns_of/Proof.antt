@@ -1,6 +1,5 @@
--- `column_run::columns_of` meets its contract: a walk of its MIR, by hand. Each struct is taken apart, and `columns` is called on the slices. All that the proof knows of `columns` is that it meets its contract.
+-- `column_run::columns_of`: a walk of its MIR, by hand. Each struct is taken apart, and `columns` is called on the slices. All that the proof knows of `columns` is that it meets its contract.
 -- A struct is Copy: what it owns is had twice, and one copy is kept whole for the exit. The three columns that are written go to the callee at their own lifetimes, shares and names, and are given up for good; what `columns` says of their last lists is what is said here.
--- Assumes nothing.
 use mathlib.Core.Path.{_≡_, refl}
 use Prim.Native.Nat.{ℕ}
 use mathlib.Core.List.{[], _∷_, List}

@@ -1,4 +1,4 @@
--- `entries::call::by_phase` meets its contract. Assumes nothing.
+-- `entries::call::by_phase` meets its contract: a number that names a phase, or 255. Assumes nothing.
 use mathlib.Core.Path.{_≡_, sym, ap, _∙_}
 use mir.Syntax.{w32}
 use mir.ValLaws.{toZ-ofZ}
@@ -28,12 +28,5 @@ returns-2 c =
 
 pub by-phase-spec : {M : Type 1} → statement M
 by-phase-spec =
-    tie.close
-    (tie.spec
-    (λ c κs. search needs)
-    (λ c. search needs)
-    (λ c κs. search needs)
-    (λ c κs. search needs)
-    returns
-    (λ c κs. search needs)
+    tie.close (tie.spec (λ c κs. search needs) (λ c. search needs) (λ c κs. search needs) (λ c κs. search needs) returns (λ c κs. search needs)
     returns-2)

@@ -1,12 +1,12 @@
--- `entries::reply_at` meets its contract. Assumes nothing.
+-- `entries::reply_at` meets its contract: the four parts of a row are read where they lie. Assumes nothing.
 use mathlib.Core.Path.{_≡_, ap, _∙_}
 use lib.IntN.{ℤ}
 use lib.Ieee.{Float}
 use mir.Syntax.{w32}
 use mir.Val.{toZ, ofZ}
 use mir.ValLaws.{toZ-ofZ}
-use Rattle.entries.specs.declared.Entry.{Entry}
-use Rattle.entries.specs.Numbers.{entryOf}
+use Rattle.entry_numbers.specs.declared.Entry.{Entry}
+use Rattle.entry_numbers.specs.Numbers.{entryOf}
 use Rattle.entries.specs.Entries.{replyRule}
 use Rattle.entries.specs.Rows.{replyAt}
 use borrow.Author.Needs.{needs}
@@ -28,15 +28,5 @@ returns c =
 
 pub reply-at-spec : {M : Type 1} → statement M
 reply-at-spec =
-    tie.close
-    (tie.spec
-    (λ c κs. search needs)
-    (λ c κs. search needs)
-    (λ c. search needs)
-    (λ c κs. search needs)
-    (λ c. search needs)
-    (λ c κs. search needs)
-    (λ c. search needs)
-    (λ c κs. search needs)
-    (λ c κs. search needs)
-    returns)
+    tie.close (tie.spec (λ c κs. search needs) (λ c κs. search needs) (λ c. search needs) (λ c κs. search needs) (λ c. search needs)
+    (λ c κs. search needs) (λ c. search needs) (λ c κs. search needs) (λ c κs. search needs) returns)

@@ -11,4 +11,5 @@ returns c =
     rw (s .number-reply2 .ensures, s .before .number-reply .ensures)
 
 pub cp-w-reply-spec : {M : Type 1} → statement M
-cp-w-reply-spec = tie.close (tie.spec (λ c κs. search needs) (λ c κs. search needs) (λ c. search needs) (λ c. search needs) (λ c. search needs) returns)
+cp-w-reply-spec =
+    tie.close (tie.spec (λ c κs. search needs) (λ c κs. search needs) (λ c. search needs) (λ c. search needs) (λ c. search needs) returns)

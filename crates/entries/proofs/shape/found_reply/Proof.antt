@@ -1,8 +1,8 @@
--- `entries::shape::found_reply` meets its contract. Assumes nothing.
+-- `entries::shape::found_reply` meets its contract: a number with the count of trials beside it, or zeros beside the refusal. Assumes nothing.
 use mathlib.Core.Path.{sym, ap, _∙_}
 use lib.Ieee.{ofBits}
 use Rattle.reply.specs.Shape.{refusedBy}
-use Rattle.place.specs.Found.{paperFound}
+use Rattle.place.specs.AcceptedPlace.{paperFound}
 use Rattle.place.specs.declared.FoundAnswer.{FoundAnswer}
 use Rattle.entries.specs.Named.{foundReply}
 use borrow.Author.Needs.{needs}
@@ -20,6 +20,4 @@ returns-2 c =
     ∙ sym (ap (λ (x : FoundAnswer). foundReply (paperFound x)) (c .before .before .before .a2 .given .1))
 
 pub found-reply-spec : {M : Type 1} → statement M
-found-reply-spec =
-    tie.close
-    (tie.spec (λ c. search needs) (λ c. search needs) (λ c κs. search needs) (λ c κs. search needs) returns returns-2)
+found-reply-spec = tie.close (tie.spec (λ c. search needs) (λ c. search needs) (λ c κs. search needs) (λ c κs. search needs) returns returns-2)

@@ -1,4 +1,4 @@
--- `entries::shape::place` meets its contract. Assumes nothing.
+-- `entries::shape::place` meets its contract: a number below 0 has no place. Assumes nothing.
 use mathlib.Core.Path.{_≡_, refl}
 use mathlib.Core.Bool.{true, false}
 use Prim.Native.Nat.{_<_, _^_}

@@ -1,4 +1,4 @@
--- `entries::shape::row_reply` meets its contract. Assumes nothing.
+-- `entries::shape::row_reply` meets its contract: a row's letter byte, density and refusal. Assumes nothing.
 use mathlib.Core.Path.{refl}
 use lib.Ieee.{ofBits}
 use Rattle.entries.proofs.shape.row_reply.Statement.{statement}

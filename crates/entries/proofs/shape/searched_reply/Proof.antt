@@ -1,4 +1,4 @@
--- `entries::shape::searched_reply` meets its contract. Assumes nothing.
+-- `entries::shape::searched_reply` meets its contract: the record's reply with the count of trials beside it. Assumes nothing.
 use borrow.Author.Needs.{needs}
 use Rattle.entries.proofs.shape.searched_reply.Statement.{statement}
 use Rattle.entries.proofs.shape.searched_reply.Tie as tie

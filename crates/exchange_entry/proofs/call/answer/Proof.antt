@@ -1,7 +1,6 @@
--- `exchange_entry::call::answer` meets its contract. Assumes nothing.
+-- `exchange_entry::call::answer` meets its contract: what was read, and the pair's answer or the reader's refusal. Assumes nothing.
 use borrow.Author.Needs.{needs}
 use Rattle.common.specs.Outcome.{value, refused}
-use Rattle.exchange_record.specs.Reading.{readNumber}
 use Rattle.exchange_entry.proofs.call.answer.Statement.{statement}
 use Rattle.exchange_entry.proofs.call.answer.Tie as tie
 
@@ -19,5 +18,4 @@ returns-2 c =
 
 pub answer-spec : {M : Type 1} → statement M
 answer-spec =
-    tie.close
-    (tie.spec (λ c κs. search needs) (λ c. search needs) (λ c κs. search needs) (λ c. search needs) (λ c κs. search needs) returns returns-2)
+    tie.close (tie.spec (λ c κs. search needs) (λ c. search needs) (λ c κs. search needs) (λ c. search needs) (λ c κs. search needs) returns returns-2)

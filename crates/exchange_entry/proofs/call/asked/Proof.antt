@@ -1,10 +1,19 @@
--- `exchange_entry::call::asked` meets its contract. Assumes nothing.
+-- `exchange_entry::call::asked` meets its contract: the entry's report, beside the pair. Assumes nothing.
+use mathlib.Core.Path.{ap, _∙_}
 use borrow.Author.Needs.{needs}
+use Rattle.common.specs.Outcome.{Outcome, value}
+use Rattle.record.specs.declared.Record.{Record}
+use Rattle.record.specs.Record.{report}
+use Rattle.exchange_entry.specs.declared.Point.{Point}
+use Rattle.exchange_entry.specs.Call.{entryRule}
 use Rattle.exchange_entry.proofs.call.asked.Statement.{statement}
 use Rattle.exchange_entry.proofs.call.asked.Tie as tie
 
 returns : tie.Need-returns
-returns c = rw (c .entered .ensures, c .before .ask .ensures, c .before .before .point-of .ensures)
+returns c =
+    let k = c .before .before in
+    rw (c .judged .ensures)
+    (ap (λ (s : Outcome Unit × Record). (value (k .before .before .args .q .pair), s)) (k .ask .ensures ∙ ap (λ (x : Point). report (entryRule x)) (k .before .point-of .ensures)))
 
 pub asked-spec : {M : Type 1} → statement M
 asked-spec = tie.close (tie.spec (λ c κs. search needs) (λ c κs. search needs) (λ c κs. search needs) returns)

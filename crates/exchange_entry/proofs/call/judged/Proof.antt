@@ -1,13 +1,7 @@
--- `exchange_entry::call::judged` meets its contract. Assumes nothing.
+-- `exchange_entry::call::judged` meets its contract: by the verdict. Assumes nothing.
 use borrow.Author.Needs.{needs}
 use Rattle.exchange_entry.proofs.call.judged.Statement.{statement}
 use Rattle.exchange_entry.proofs.call.judged.Tie as tie
 
-returns : tie.Need-returns
-returns c = rw (c .enum-told .given .1)
-
-returns-2 : tie.Need-returns-2
-returns-2 c = rw (c .before .v .given .1)
-
 pub judged-spec : {M : Type 1} → statement M
-judged-spec = tie.close (tie.spec (λ c. search needs) (λ c. search needs) returns returns-2)
+judged-spec = tie.close (tie.spec (λ c. search needs) (λ c. search needs) (λ c. rw (c .enum-told .given .1)) (λ c. rw (c .before .v .given .1)))

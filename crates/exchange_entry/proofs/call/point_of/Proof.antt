@@ -1,4 +1,4 @@
--- `exchange_entry::call::point_of` meets its contract. Assumes nothing.
+-- `exchange_entry::call::point_of` meets its contract: the numbers of the bits, then the point. Assumes nothing.
 use borrow.Author.Needs.{needs}
 use Rattle.exchange_entry.proofs.call.point_of.Statement.{statement}
 use Rattle.exchange_entry.proofs.call.point_of.Tie as tie

@@ -1,21 +1,9 @@
--- `exchange_record::field::add` meets its contract. Assumes nothing.
+-- `exchange_record::field::add` meets its contract: by what was seen before. Assumes nothing.
 use borrow.Author.Needs.{needs}
 use Rattle.exchange_record.proofs.field.add.Statement.{statement}
 use Rattle.exchange_record.proofs.field.add.Tie as tie
 
-returns : tie.Need-returns
-returns c = rw (c .enum-told .given .1)
-
-returns-2 : tie.Need-returns-2
-returns-2 c = rw (c .before .seen .given .1)
-
-returns-3 : tie.Need-returns-3
-returns-3 c = rw (c .enum-told2 .given .1)
-
-returns-4 : tie.Need-returns-4
-returns-4 c = rw (c .enum-told3 .given .1)
-
 pub add-spec : {M : Type 1} → statement M
 add-spec =
-    tie.close
-    (tie.spec (λ c. search needs) (λ c. search needs) (λ c. search needs) (λ c. search needs) returns returns-2 returns-3 returns-4)
+    tie.close (tie.spec (λ c. search needs) (λ c. search needs) (λ c. search needs) (λ c. search needs) (λ c. rw (c .enum-told .given .1))
+    (λ c. rw (c .before .seen .given .1)) (λ c. rw (c .enum-told2 .given .1)) (λ c. rw (c .enum-told3 .given .1)))

@@ -1,9 +1,5 @@
--- `exchange_record::number::word_at` meets its contract. Assumes nothing.
-use mathlib.Core.Path.{_≡_, _∙_}
-use Prim.Native.Nat.{_+_, _*_, _^_}
-use native.Mathlib.Omega.{arith}
+-- `exchange_record::number::word_at` meets its contract: two halves of four bytes are eight bytes. Assumes nothing.
 use borrow.Author.Needs.{needs}
-use Rattle.exchange_record.specs.Walk.{halfAt}
 use Rattle.exchange_record.proofs.Bytes.{eight-bytes}
 use Rattle.exchange_record.proofs.number.word_at.Statement.{statement}
 use Rattle.exchange_record.proofs.number.word_at.Tie as tie
@@ -14,6 +10,4 @@ returns c =
     rw (c .before .half-at .ensures .0, c .half-at2 .ensures .0) (eight-bytes (a .s .now) (a .at) (search needs))
 
 pub word-at-spec : {M : Type 1} → statement M
-word-at-spec =
-    tie.close
-    (tie.spec (λ c κs. search needs) (λ c. search needs) (λ c. search needs) (λ c κs. search needs) (λ c. search needs) returns)
+word-at-spec = tie.close (tie.spec (λ c κs. search needs) (λ c. search needs) (λ c. search needs) (λ c κs. search needs) (λ c. search needs) returns)

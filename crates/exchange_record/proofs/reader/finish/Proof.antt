@@ -1,15 +1,9 @@
--- `exchange_record::reader::finish` meets its contract. Assumes nothing.
+-- `exchange_record::reader::finish` meets its contract: by what was seen. Assumes nothing.
 use mathlib.Core.Path.{sym, ap, _∙_}
 use borrow.Author.Needs.{needs}
 use Rattle.exchange_record.specs.Walk.{finished}
 use Rattle.exchange_record.proofs.reader.finish.Statement.{statement}
 use Rattle.exchange_record.proofs.reader.finish.Tie as tie
-
-returns : tie.Need-returns
-returns c = rw (c .enum-told .given .1)
-
-returns-2 : tie.Need-returns-2
-returns-2 c = rw (c .enum-told2 .given .1)
 
 returns-3 : tie.Need-returns-3
 returns-3 c = c .paired .ensures ∙ sym (ap finished (c .before .before .seen .given .1))
@@ -19,5 +13,5 @@ returns-4 c = rw (c .enum-told3 .given .1)
 
 pub finish-spec : {M : Type 1} → statement M
 finish-spec =
-    tie.close
-    (tie.spec (λ c. search needs) (λ c. search needs) (λ c. search needs) (λ c κs. search needs) (λ c. search needs) returns returns-2 returns-3 returns-4)
+    tie.close (tie.spec (λ c. search needs) (λ c. search needs) (λ c. search needs) (λ c κs. search needs) (λ c. search needs)
+    (λ c. rw (c .enum-told .given .1)) (λ c. rw (c .enum-told2 .given .1)) returns-3 returns-4)

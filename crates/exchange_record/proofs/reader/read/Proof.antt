@@ -1,5 +1,5 @@
 -- `exchange_record::reader::read` meets its contract. The loop's invariant: what follows the fields that were passed decides the whole. Assumes nothing.
-use mathlib.Core.Path.{_≡_, refl, sym, ap, subst, _∙_}
+use mathlib.Core.Path.{_≡_, refl}
 use mathlib.Core.Logic.{⊎-elim}
 use Prim.Native.Nat.{_-_}
 use native.Mathlib.Omega.{arith}
@@ -18,12 +18,6 @@ abbrev μ-loop : tie.MeasureT-loop
 loop-holds : tie.Need-loop-holds Inv-loop μ-loop
 loop-holds c = (starts _ _ refl refl, refl)
 
-step-requires : tie.Need-step-requires Inv-loop μ-loop
-step-requires c κs = search needs
-
-enum-known-d : tie.Need-enum-known-d Inv-loop μ-loop
-enum-known-d c = search needs
-
 loop-less : tie.Need-loop-less Inv-loop μ-loop
 loop-less c =
     let p = rw (c .before .d .given .1) at (c .before .before .before .step .ensures) in
@@ -36,22 +30,16 @@ loop-again c =
     let p = rw (c .before .d .given .1) at (c .before .before .before .step .ensures) in
     (goes-on _ _ (c .before .before .before .before .before .loop .inv .0) _ p, refl)
 
-enum-known-k : tie.Need-enum-known-k Inv-loop μ-loop
-enum-known-k c = search needs
-
 returns : tie.Need-returns Inv-loop μ-loop
 returns c =
     let p = rw (c .before .k .given .1) at (c .before .before .before .step .ensures) in
     let r = c .before .before .before .before .before .loop .inv .0 in
     ⊎-elim (λ h. rw (h .1) (cut-off _ _ r (h .0))) (λ h. stopped-by _ _ r _ h) p
 
-finish-requires : tie.Need-finish-requires Inv-loop μ-loop
-finish-requires c κs = search needs
-
 returns-2 : tie.Need-returns-2 Inv-loop μ-loop
 returns-2 c = rw (c .finish .ensures) (ends _ _ (c .before .before .loop .inv .0) (search needs))
 
 pub read-spec : {M : Type 1} → statement M
 read-spec =
-    tie.close
-    (tie.spec Inv-loop μ-loop loop-holds step-requires enum-known-d loop-less loop-again enum-known-k returns finish-requires returns-2)
+    tie.close (tie.spec Inv-loop μ-loop loop-holds (λ c κs. search needs) (λ c. search needs) loop-less loop-again (λ c. search needs) returns
+    (λ c κs. search needs) returns-2)

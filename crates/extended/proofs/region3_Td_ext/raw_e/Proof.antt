@@ -24,11 +24,5 @@ returns c =
 
 pub raw-e-spec : {M : Type 1} → statement M
 raw-e-spec =
-    tie.close
-    (tie.spec
-    (λ c κs. search needs) (λ c κs. search needs)
-    (λ c κs. search needs)
-    (λ c κs. search needs)
-    (λ c κs. search needs)
-    (λ c κs. search needs)
-    returns)
+    tie.close (tie.spec (λ c κs. search needs) (λ c κs. search needs) (λ c κs. search needs) (λ c κs. search needs) (λ c κs. search needs)
+    (λ c κs. search needs) returns)

@@ -15,5 +15,4 @@ returns c =
     (then-p _ _ (s .before .raw-fi .ensures .raw) (s .raw-p .ensures .raw) (λ ff fp. raw-value _ fp *ʳ raw-value _ ff))
 
 pub state-fu-spec : {M : Type 1} → statement M
-state-fu-spec =
-    tie.close (tie.spec (λ c κs. search needs) (λ c κs. search needs) (λ c κs. search needs) (λ c κs. search needs) returns)
+state-fu-spec = tie.close (tie.spec (λ c κs. search needs) (λ c κs. search needs) (λ c κs. search needs) (λ c κs. search needs) returns)

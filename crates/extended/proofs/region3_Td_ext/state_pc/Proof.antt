@@ -19,5 +19,4 @@ returns c =
     (λ fp. named (s .over .ensures) (raw-value (whole 1) refl /ʳ raw-value _ fp) *ʳ c .before .raw-dpdtcv .ensures .raw)
 
 pub state-pc-spec : {M : Type 1} → statement M
-state-pc-spec =
-    tie.close (tie.spec (λ c κs. search needs) (λ c κs. search needs) (λ c κs. search needs) (λ c κs. search needs) returns)
+state-pc-spec = tie.close (tie.spec (λ c κs. search needs) (λ c κs. search needs) (λ c κs. search needs) (λ c κs. search needs) returns)

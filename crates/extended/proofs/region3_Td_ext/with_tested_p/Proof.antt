@@ -19,5 +19,4 @@ returns-2 c =
     sym (from-refused (a .p) (a .x) (s .settle-p .ensures) _ (ap paper (c .before .k .given .1)))
 
 pub with-tested-p-spec : {M : Type 1} → statement M
-with-tested-p-spec =
-    tie.close (tie.spec (λ c κs. search needs) (λ c. search needs) (λ c κs. search needs) (λ c. search needs) returns returns-2)
+with-tested-p-spec = tie.close (tie.spec (λ c κs. search needs) (λ c. search needs) (λ c κs. search needs) (λ c. search needs) returns returns-2)

@@ -25,4 +25,5 @@ returns c =
 
 pub polys-i-ii-ij-jj-powi-reg3-spec : {M : Type 1} → statement M
 polys-i-ii-ij-jj-powi-reg3-spec =
-    tie.close (tie.spec (λ c κs. search needs) (λ c κs. search needs) (λ c κs. search needs) (λ c κs. search needs) (λ c κs. search needs) (λ c κs. search needs) returns)
+    tie.close (tie.spec (λ c κs. search needs) (λ c κs. search needs) (λ c κs. search needs) (λ c κs. search needs) (λ c κs. search needs)
+    (λ c κs. search needs) returns)

@@ -24,18 +24,6 @@ abbrev μ-loop : tie.MeasureT-loop
 loop-holds : tie.Need-loop-holds Inv-loop μ-loop
 loop-holds c = (omega arith, passed-none (c .args .column .now))
 
-mul-n : tie.Need-mul-n Inv-loop μ-loop
-mul-n c = omega arith
-
-shared-slice-copy-out-n : tie.Need-shared-slice-copy-out-n Inv-loop μ-loop
-shared-slice-copy-out-n c = omega arith
-
-add-k : tie.Need-add-k Inv-loop μ-loop
-add-k c = omega arith
-
-loop-less : tie.Need-loop-less Inv-loop μ-loop
-loop-less c = omega arith
-
 -- the exponent at k
 abbrev at : tie.After-n Inv-loop μ-loop → ℤ
 at c = getD (c .before .before .before .args .column .now) (c .before .before .loop .k) (pos 0)
@@ -77,16 +65,5 @@ returns c =
 
 pub span-of-spec : {M : Type 1} → statement M
 span-of-spec =
-    tie.close
-    (tie.spec
-    Inv-loop
-    μ-loop
-    loop-holds
-    mul-n
-    shared-slice-copy-out-n
-    add-k
-    loop-less
-    loop-again
-    (λ c κs. search needs)
-    (λ c κs. search needs)
-    returns)
+    tie.close (tie.spec Inv-loop μ-loop loop-holds (λ c. omega arith) (λ c. omega arith) (λ c. omega arith) (λ c. omega arith) loop-again
+    (λ c κs. search needs) (λ c κs. search needs) returns)

@@ -1,22 +1,22 @@
--- `polynomial::settle_pair` meets its contract. Assumes nothing.
+-- `polynomial::settle_pair` meets its contract: each test says that its number is kept or lost. Assumes nothing.
+use mathlib.Core.Path.{_≡_, sym, _∙_}
 use borrow.Author.Needs.{needs}
+use Rattle.common.specs.Outcome.{value, check}
 use Rattle.common.proofs.Laws.{check-kept, check-lost}
 use Rattle.polynomial.proofs.polynomial.settle_pair.Statement.{statement}
 use Rattle.polynomial.proofs.polynomial.settle_pair.Tie as tie
 
+first-kept : (c : tie.Then1) → let x = c .before .before .args .p .first in check x ≡ value x
+first-kept c = check-kept _ (sym (c .before .is-finite .ensures) ∙ c .if1 .taken)
+
 returns : tie.Need-returns
-returns c =
-    let p = c .before .before .before .before .args .p in
-    rw (check-kept (p .first) (cc), check-kept (p .second) (cc))
+returns c = rw (first-kept (c .before .before), check-kept (c .before .before .before .before .args .p .second) (sym (c .before .is-finite2 .ensures) ∙ c .if2 .taken))
 
 returns-2 : tie.Need-returns-2
-returns-2 c =
-    let p = c .before .before .before .before .args .p in
-    rw (check-kept (p .first) (cc), check-lost (p .second) (cc))
+returns-2 c = rw (first-kept (c .before .before), check-lost (c .before .before .before .before .args .p .second) (sym (c .before .is-finite2 .ensures) ∙ c .if2 .left))
 
 returns-3 : tie.Need-returns-3
-returns-3 c = rw (check-lost (c .before .before .args .p .first) (cc))
+returns-3 c = rw (check-lost (c .before .before .args .p .first) (sym (c .before .is-finite .ensures) ∙ c .if1 .left))
 
 pub settle-pair-spec : {M : Type 1} → statement M
-settle-pair-spec =
-    tie.close (tie.spec (λ c κs. search needs) (λ c κs. search needs) returns returns-2 returns-3)
+settle-pair-spec = tie.close (tie.spec (λ c κs. search needs) (λ c κs. search needs) returns returns-2 returns-3)

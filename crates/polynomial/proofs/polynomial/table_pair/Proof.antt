@@ -1,5 +1,5 @@
 -- `polynomial::table_pair` meets its contract.
-use mathlib.Core.Path.{sym, _∙_, ap}
+use mathlib.Core.Path.{sym, _∙_}
 use mathlib.Core.List.{List}
 use denote.Ref.{now}
 use borrow.Author.Needs.{needs}
@@ -20,13 +20,13 @@ returns c =
     let p = x .raw-pair .ensures in
     c .settle-pair .ensures
     ∙ (rw (p .0, p .1, share-settled (a .a) (a .s) (a .vi) (a .vj) rows, share-settled (a .a) (a .t) (a .vi) (a .vj) rows))
-    ∙ sym (taken-by (λ (rs : List Row). pairOf (shareRule (a .a) (a .s) (a .vi) (a .vj) rs) (shareRule (a .a) (a .t) (a .vi) (a .vj) rs)) (now (a .is)) (now (a .js)) (now (a .ns)) (cc))
+    ∙ sym (taken-by (λ (rs : List Row). pairOf (shareRule (a .a) (a .s) (a .vi) (a .vj) rs) (shareRule (a .a) (a .t) (a .vi) (a .vj) rs)) (now (a .is)) (now (a .js)) (now (a .ns)) (sym (x .before .before .same-lengths .ensures) ∙ x .before .if1 .taken))
 
 returns-2 : tie.Need-returns-2
 unfolding pairTable
 returns-2 c =
     let a = c .before .before .before .args in
-    sym (refused-by (λ (rs : List Row). pairOf (shareRule (a .a) (a .s) (a .vi) (a .vj) rs) (shareRule (a .a) (a .t) (a .vi) (a .vj) rs)) (now (a .is)) (now (a .js)) (now (a .ns)) (cc))
+    sym (refused-by (λ (rs : List Row). pairOf (shareRule (a .a) (a .s) (a .vi) (a .vj) rs) (shareRule (a .a) (a .t) (a .vi) (a .vj) rs)) (now (a .is)) (now (a .js)) (now (a .ns)) (sym (c .before .same-lengths .ensures) ∙ c .if1 .left))
 
 pub table-pair-spec : {M : Type 1} → statement M
 table-pair-spec = tie.close (tie.spec (λ c κs. search needs) (λ c κs. search needs) (λ c κs. search needs) returns returns-2)

@@ -1,6 +1,5 @@
 -- `polynomial::table_sum` meets its contract.
 use mathlib.Core.Path.{sym, _∙_, ap}
-use mathlib.Core.List.{List}
 use denote.Ref.{now}
 use borrow.Author.Needs.{needs}
 use Rattle.common.specs.Outcome.{check}
@@ -15,18 +14,17 @@ returns : tie.Need-returns
 unfolding tableRule
 returns c =
     let x = c .before in
-    let t = x .before in
-    let a = t .before .before .before .args in
+    let a = x .before .before .before .before .args in
     c .settle .ensures
     ∙ ap check (x .raw-sum .ensures)
     ∙ slope-settled (a .a) (a .b) (a .vi) (a .vj) (rowsOf (now (a .is)) (now (a .js)) (now (a .ns)))
-    ∙ sym (taken-by (sumRule (differentiated (a .a) (a .b)) (a .vi) (a .vj)) (now (a .is)) (now (a .js)) (now (a .ns)) (cc))
+    ∙ sym (taken-by (sumRule (differentiated (a .a) (a .b)) (a .vi) (a .vj)) (now (a .is)) (now (a .js)) (now (a .ns)) (sym (x .before .before .same-lengths .ensures) ∙ x .before .if1 .taken))
 
 returns-2 : tie.Need-returns-2
 unfolding tableRule
 returns-2 c =
     let a = c .before .before .before .args in
-    sym (refused-by (sumRule (differentiated (a .a) (a .b)) (a .vi) (a .vj)) (now (a .is)) (now (a .js)) (now (a .ns)) (cc))
+    sym (refused-by (sumRule (differentiated (a .a) (a .b)) (a .vi) (a .vj)) (now (a .is)) (now (a .js)) (now (a .ns)) (sym (c .before .same-lengths .ensures) ∙ c .if1 .left))
 
 pub table-sum-spec : {M : Type 1} → statement M
 table-sum-spec = tie.close (tie.spec (λ c κs. search needs) (λ c κs. search needs) (λ c κs. search needs) returns returns-2)

@@ -18,5 +18,4 @@ returns c =
     tested (R *ʳ (raw-minus τ *ʳ τ *ʳ at phi-tautau δ τ (c .before .phi-tautau-reg3 .ensures .raw))) (c .finite-or-nan .ensures)
 
 pub raw-cv-spec : {M : Type 1} → statement M
-raw-cv-spec =
-    tie.close (tie.spec (λ c κs. search needs) (λ c κs. search needs) (λ c κs. search needs) (λ c κs. search needs) returns)
+raw-cv-spec = tie.close (tie.spec (λ c κs. search needs) (λ c κs. search needs) (λ c κs. search needs) (λ c κs. search needs) returns)

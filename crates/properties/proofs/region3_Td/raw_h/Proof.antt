@@ -21,5 +21,4 @@ returns c =
     tested (R *ʳ T *ʳ (τ *ʳ at joint-tau δ τ (joint .1 .raw) +ʳ δ *ʳ at joint-delta δ τ (joint .0 .raw))) (c .finite-or-nan .ensures)
 
 pub raw-h-spec : {M : Type 1} → statement M
-raw-h-spec =
-    tie.close (tie.spec (λ c κs. search needs) (λ c κs. search needs) (λ c κs. search needs) (λ c κs. search needs) returns)
+raw-h-spec = tie.close (tie.spec (λ c κs. search needs) (λ c κs. search needs) (λ c κs. search needs) (λ c κs. search needs) returns)

@@ -20,5 +20,4 @@ returns c =
     tested (R *ʳ (τ *ʳ at joint-tau δ τ (joint .1 .raw) -ʳ at joint-phi δ τ (joint .0 .raw))) (c .finite-or-nan .ensures)
 
 pub raw-s-spec : {M : Type 1} → statement M
-raw-s-spec =
-    tie.close (tie.spec (λ c κs. search needs) (λ c κs. search needs) (λ c κs. search needs) (λ c κs. search needs) returns)
+raw-s-spec = tie.close (tie.spec (λ c κs. search needs) (λ c κs. search needs) (λ c κs. search needs) (λ c κs. search needs) returns)

@@ -1,4 +1,4 @@
--- `record::records::blank` meets its contract. Assumes nothing.
+-- `record::records::blank` meets its contract: ten zeros. Assumes nothing.
 use mathlib.Core.Path.{refl}
 use lib.Ieee.{ofBits}
 use Rattle.record.proofs.records.blank.Statement.{statement}

@@ -1,4 +1,4 @@
--- `record::records::refuse` meets its contract. Assumes nothing.
+-- `record::records::refuse` meets its contract: every field of the given record is written over. Assumes nothing.
 use mathlib.Core.Path.{refl}
 use lib.Ieee.{ofBits}
 use Rattle.record.proofs.records.refuse.Statement.{statement}

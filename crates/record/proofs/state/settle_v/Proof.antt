@@ -1,4 +1,4 @@
--- `record::settle_v` meets its contract. Assumes nothing.
+-- `record::settle_v` meets its contract: v stays where its density is accepted. Assumes nothing.
 use mathlib.Core.Path.{_≡_, sym, ap, _∙_}
 use lib.Ieee.{Float}
 use borrow.Author.Needs.{needs}

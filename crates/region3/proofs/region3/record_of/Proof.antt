@@ -1,4 +1,4 @@
--- `region3::record_of` meets its contract: by the case of what was found. Assumes nothing.
+-- `region3::record_of`: by the case of what was found.
 use borrow.Author.Needs.{needs}
 use Rattle.region3.proofs.region3.record_of.Statement.{statement}
 use Rattle.region3.proofs.region3.record_of.Tie as tie
@@ -10,5 +10,4 @@ returns-2 : tie.Need-returns-2
 returns-2 c = rw (c .before .before .f2 .given .1) (c .refuse .ensures)
 
 pub record-of-spec : {M : Type 1} → statement M
-record-of-spec =
-    tie.close (tie.spec (λ c. search needs) (λ c κs. search needs) (λ c. search needs) (λ c κs. search needs) returns returns-2)
+record-of-spec = tie.close (tie.spec (λ c. search needs) (λ c κs. search needs) (λ c. search needs) (λ c κs. search needs) returns returns-2)

@@ -1,4 +1,4 @@
--- `region3_c::exported::exported` meets its contract. Assumes nothing.
+-- `region3_c::exported::exported` meets its contract: the value, or +0.0 beside the refusal. Assumes nothing.
 use mathlib.Core.Path.{refl}
 use lib.Ieee.{ofBits}
 use borrow.Author.Needs.{needs}

@@ -1,4 +1,4 @@
--- `region3_c::exported::exported_found` meets its contract. Assumes nothing.
+-- `region3_c::exported::exported_found` meets its contract: the place and its trials, or +0.0 and none beside the refusal. Assumes nothing.
 use mathlib.Core.Path.{refl}
 use lib.Ieee.{ofBits}
 use borrow.Author.Needs.{needs}

@@ -13,9 +13,6 @@ use Rattle.reply.proofs.Laws.{reply-length}
 use Rattle.reply.proofs.bytes.put_reply.Statement.{statement}
 use Rattle.reply.proofs.bytes.put_reply.Tie as tie
 
-put-bytes-requires : tie.Need-put-bytes-requires
-put-bytes-requires c κs = omega arith
-
 returns : tie.Need-returns
 returns c =
     let a = c .before .before .before .before .before .before .before .args in
@@ -36,4 +33,4 @@ returns-3 c =
     rw (reply-length (a .r), over)
 
 pub put-reply-spec : {M : Type 1} → statement M
-put-reply-spec = tie.close (tie.spec put-bytes-requires (λ c. search needs) returns returns-2 returns-3)
+put-reply-spec = tie.close (tie.spec (λ c κs. omega arith) (λ c. search needs) returns returns-2 returns-3)

@@ -1,4 +1,4 @@
--- `reply::shape::letter_reply` meets its contract. Assumes nothing.
+-- `reply::shape::letter_reply` meets its contract: a letter and no refusal, or a refusal and no letter. Assumes nothing.
 use lib.Ieee.{ofBits}
 use borrow.Author.Needs.{needs}
 use Rattle.reply.proofs.shape.letter_reply.Statement.{statement}

@@ -1,4 +1,4 @@
--- `reply::shape::number_reply` meets its contract. Assumes nothing.
+-- `reply::shape::number_reply` meets its contract: a number, or zeros beside the refusal. Assumes nothing.
 use mathlib.Core.Path.{sym, ap, _∙_}
 use lib.Ieee.{ofBits}
 use Rattle.common.specs.Answer.{paper}
@@ -19,6 +19,4 @@ returns-2 c =
     ∙ sym (ap (λ (x : Answer). numberReply (paper x)) (c .before .before .before .a2 .given .1))
 
 pub number-reply-spec : {M : Type 1} → statement M
-number-reply-spec =
-    tie.close
-    (tie.spec (λ c. search needs) (λ c. search needs) (λ c κs. search needs) (λ c κs. search needs) returns returns-2)
+number-reply-spec = tie.close (tie.spec (λ c. search needs) (λ c. search needs) (λ c κs. search needs) (λ c κs. search needs) returns returns-2)

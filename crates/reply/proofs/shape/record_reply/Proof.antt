@@ -1,4 +1,4 @@
--- `reply::shape::record_reply` meets its contract. Assumes nothing.
+-- `reply::shape::record_reply` meets its contract: the ten numbers in order, or zeros beside the refusal. Assumes nothing.
 use borrow.Author.Needs.{needs}
 use Rattle.reply.proofs.shape.record_reply.Statement.{statement}
 use Rattle.reply.proofs.shape.record_reply.Tie as tie

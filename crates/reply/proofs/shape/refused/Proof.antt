@@ -1,4 +1,4 @@
--- `reply::shape::refused` meets its contract. Assumes nothing.
+-- `reply::shape::refused` meets its contract: the refusal and zeros. Assumes nothing.
 use mathlib.Core.Path.{refl}
 use lib.Ieee.{ofBits}
 use Rattle.reply.proofs.shape.refused.Statement.{statement}

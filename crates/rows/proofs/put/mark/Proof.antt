@@ -1,4 +1,4 @@
--- `rows::put::mark` meets its contract. Assumes nothing.
+-- `rows::put::mark` meets its contract: the letter, or - where there is none. Assumes nothing.
 use borrow.Author.Needs.{needs}
 use Rattle.rows.proofs.put.mark.Statement.{statement}
 use Rattle.rows.proofs.put.mark.Tie as tie

@@ -1,4 +1,4 @@
--- `rows::take::take_rows` meets its contract. Assumes nothing.
+-- `rows::take::take_rows` meets its contract: the loop keeps both columns up to the row reached. Assumes nothing.
 use mathlib.Core.Path.{_≡_, refl, ap, _∙_}
 use mathlib.Core.List.{List}
 use Prim.Native.Nat.{ℕ, _+_, _*_, _-_, _≤_}
@@ -30,33 +30,6 @@ loop-holds : tie.Need-loop-holds Inv-loop μ-loop
 unfolding joined
 loop-holds c = (omega arith, refl, refl, refl, refl)
 
-mul-float-at : tie.Need-mul-float-at Inv-loop μ-loop
-mul-float-at c = omega arith
-
-mul-ps : tie.Need-mul-ps Inv-loop μ-loop
-mul-ps c = omega arith
-
-slice-write-ps : tie.Need-slice-write-ps Inv-loop μ-loop
-slice-write-ps c = omega arith
-
-mul-float-at-2 : tie.Need-mul-float-at-2 Inv-loop μ-loop
-mul-float-at-2 c = omega arith
-
-add-float-at : tie.Need-add-float-at Inv-loop μ-loop
-add-float-at c = omega arith
-
-mul-ts : tie.Need-mul-ts Inv-loop μ-loop
-mul-ts c = omega arith
-
-slice-write-ts : tie.Need-slice-write-ts Inv-loop μ-loop
-slice-write-ts c = omega arith
-
-add-i : tie.Need-add-i Inv-loop μ-loop
-add-i c = omega arith
-
-loop-less : tie.Need-loop-less Inv-loop μ-loop
-loop-less c = omega arith
-
 loop-again : tie.Need-loop-again Inv-loop μ-loop
 loop-again c =
     let l = c .before .before .before in
@@ -71,12 +44,6 @@ loop-again c =
           ∙ column-more (a .ts .now) (tAt (a .s .now)) i (c .float-at2 .result) (c .float-at2 .ensures ∙ float-in (a .s .now) (16 * i + 8) (omega arith)),
     )
 
-same-length : tie.Need-same-length Inv-loop μ-loop
-same-length c = omega arith
-
-same-length-2 : tie.Need-same-length-2 Inv-loop μ-loop
-same-length-2 c = omega arith
-
 returns : tie.Need-returns Inv-loop μ-loop
 returns c =
     let l = c .before in
@@ -88,23 +55,6 @@ returns c =
 
 pub take-rows-spec : {M : Type 1} → statement M
 take-rows-spec =
-    tie.close
-    (tie.spec
-    Inv-loop
-    μ-loop
-    loop-holds
-    mul-float-at
-    (λ c κs. search needs)
-    mul-ps
-    slice-write-ps
-    mul-float-at-2
-    add-float-at
-    (λ c κs. search needs)
-    mul-ts
-    slice-write-ts
-    add-i
-    loop-less
-    loop-again
-    same-length
-    same-length-2
-    returns)
+    tie.close (tie.spec Inv-loop μ-loop loop-holds (λ c. omega arith) (λ c κs. search needs) (λ c. omega arith) (λ c. omega arith) (λ c. omega arith)
+    (λ c. omega arith) (λ c κs. search needs) (λ c. omega arith) (λ c. omega arith) (λ c. omega arith) (λ c. omega arith) loop-again
+    (λ c. omega arith) (λ c. omega arith) returns)

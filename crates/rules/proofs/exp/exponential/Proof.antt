@@ -14,11 +14,15 @@ use borrow.Author.Needs.{needs}
 use Rattle.rules.proofs.exp.exponential.Statement.{statement}
 use Rattle.rules.proofs.exp.exponential.Tie as tie
 
+-- x is finite
+number : (c : tie.Then1) → finite (c .before .before .args .x) ≡ true
+number c = sym (c .before .is-finite .ensures) ∙ c .if1 .taken
+
 small-at : (c : tie.Then3) → T (atMost1010 (div binary64 (c .before .before .before .before .args .x) L))
 unfolding neg ofBits
 small-at c =
     let x = c .before .before .before .before .args .x in
-    quotient-small x (cc) (c .before .if2 .taken) (c .if3 .taken)
+    quotient-small x (number (c .before .before)) (c .before .if2 .taken) (c .if3 .taken)
 
 whole-is : (c : tie.After-nearest-whole) → c .nearest-whole .result ≡ wholeSize (div binary64 (c .before .before .before .before .before .args .x) L)
 unfolding L round ofBits
@@ -39,7 +43,7 @@ inside-range : (c : tie.Then3) → exponentialRule (c .before .before .before .b
 unfolding exponentialRule ofInt round neg ofBits
 inside-range c =
     let x = c .before .before .before .before .args .x in
-    let f : finite x ≡ true = cc in
+    let f : finite x ≡ true = number (c .before .before) in
     let g : le (fin true 175 (pos 2)) x ≡ true = c .before .if2 .taken in
     let h : le x (fin false 175 (pos 2)) ≡ true = c .if3 .taken in
     rw (f, g, h)
@@ -72,7 +76,7 @@ returns-2 : tie.Need-returns-2
 unfolding exponentialRule ofInt round neg ofBits
 returns-2 c =
     let x = c .before .before .before .before .args .x in
-    let f : finite x ≡ true = cc in
+    let f : finite x ≡ true = number (c .before .before) in
     let g : le (fin true 175 (pos 2)) x ≡ true = c .before .if2 .taken in
     let h : le x (fin false 175 (pos 2)) ≡ false = c .if3 .left in
     rw (f, g, h)
@@ -81,27 +85,15 @@ returns-3 : tie.Need-returns-3
 unfolding exponentialRule ofInt round neg ofBits
 returns-3 c =
     let x = c .before .before .before .args .x in
-    let f : finite x ≡ true = cc in
+    let f : finite x ≡ true = number (c .before) in
     let g : le (fin true 175 (pos 2)) x ≡ false = c .if2 .left in
     rw (f, g)
 
 returns-4 : tie.Need-returns-4
 unfolding exponentialRule
-returns-4 c =
-    let f : finite (c .before .before .args .x) ≡ false = cc in
-    rw f
+returns-4 c = rw (sym (c .before .is-finite .ensures) ∙ c .if1 .left)
 
 pub exponential-spec : {M : Type 1} → statement M
 exponential-spec =
-    tie.close
-    (tie.spec
-    (λ c κs. search needs)
-    nearest-whole-requires
-    signed-number-requires
-    two-to-requires
-    (λ c κs. search needs)
-    (λ c κs. search needs)
-    returns
-    returns-2
-    returns-3
-    returns-4)
+    tie.close (tie.spec (λ c κs. search needs) nearest-whole-requires signed-number-requires two-to-requires (λ c κs. search needs)
+    (λ c κs. search needs) returns returns-2 returns-3 returns-4)

@@ -40,9 +40,6 @@ float-to-bits-b c = no-nan (c .args .q) (c .pre)
 returns : tie.Need-returns
 returns c = q-low (c .before .args .q) (held (c .before)) (c .before .pre) (c .if1 .taken)
 
-sub-places : tie.Need-sub-places
-sub-places c = omega (arith, field c)
-
 mul-rest : tie.Need-mul-rest
 mul-rest c = record { fits = subst (λ (o : ℕ). digits c / 2 ^ places c * o < 2 ^ 64) (sym (one c)) (lt-of-le-of-lt (div-mul-le-self (digits c) (2 ^ places c)) (omega arith)) }
 
@@ -74,19 +71,5 @@ returns-4 c =
 
 pub nearest-whole-spec : {M : Type 1} → statement M
 nearest-whole-spec =
-    tie.close
-    (tie.spec
-    float-to-bits-b
-    returns
-    (λ c. search needs)
-    sub-places
-    (λ c. search needs)
-    (λ c. search needs)
-    mul-rest
-    sub-rest
-    (λ c. search needs)
-    add-result
-    add-result-2
-    returns-2
-    returns-3
-    returns-4)
+    tie.close (tie.spec float-to-bits-b returns (λ c. search needs) (λ c. omega (arith, field c)) (λ c. search needs) (λ c. search needs) mul-rest
+    sub-rest (λ c. search needs) add-result add-result-2 returns-2 returns-3 returns-4)

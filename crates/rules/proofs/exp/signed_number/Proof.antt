@@ -26,5 +26,4 @@ returns-3 : tie.Need-returns-3
 returns-3 c = rw (c .before .if1 .left)
 
 pub signed-number-spec : {M : Type 1} → statement M
-signed-number-spec =
-    tie.close (tie.spec int-to-float-result int-to-float-result-2 returns returns-2 returns-3)
+signed-number-spec = tie.close (tie.spec int-to-float-result int-to-float-result-2 returns returns-2 returns-3)

@@ -21,13 +21,5 @@ returns-2 c = rw (c .if1 .left) (two-up (c .before .args .n) (c .before .pre))
 
 pub two-to-spec : {M : Type 1} → statement M
 two-to-spec =
-    tie.close
-    (tie.spec
-    (λ c. search needs)
-    (λ c. search needs)
-    float-from-bits-result
-    (λ c. search needs)
-    (λ c. search needs)
-    float-from-bits-result-2
-    returns
-    returns-2)
+    tie.close (tie.spec (λ c. search needs) (λ c. search needs) float-from-bits-result (λ c. search needs) (λ c. search needs)
+    float-from-bits-result-2 returns returns-2)

@@ -30,5 +30,4 @@ returns-2 c =
     round-neg binary64 false (1074 - k) 1 ∙ ap (λ (y : ℕ). round binary64 true y 1) n ∙ rw (lt-leb 1074 k (c .before .if1 .left))
 
 pub exponent-spec : {M : Type 1} → statement M
-exponent-spec =
-    tie.close (tie.spec int-to-float-result (λ c. search needs) int-to-float-result-2 returns returns-2)
+exponent-spec = tie.close (tie.spec int-to-float-result (λ c. search needs) int-to-float-result-2 returns returns-2)

@@ -24,24 +24,6 @@ within c =
     let l = low-bits (s .args .x) (held s) (s .pre) (c .if1 .taken) in
     zeros (toBits binary64 (s .args .x)) (l .0) (l .1)
 
-sub-z : tie.Need-sub-z
-sub-z c = omega (arith, within c)
-
-cast-t8 : tie.Need-cast-t8
-cast-t8 c = omega (arith, within c)
-
-shl-t9 : tie.Need-shl-t9
-shl-t9 c = omega (arith, within c)
-
-cast-t10 : tie.Need-cast-t10
-cast-t10 c = omega (arith, within c)
-
-sub-t11 : tie.Need-sub-t11
-sub-t11 c = omega (arith, within c)
-
-add-t14 : tie.Need-add-t14
-add-t14 c = omega (arith, bits-lt (c .before .args .x) (held (c .before)) (c .before .pre))
-
 returns : tie.Need-returns
 returns c =
     let s = c .before in
@@ -58,15 +40,6 @@ returns-2 c =
 
 pub unpack-spec : {M : Type 1} → statement M
 unpack-spec =
-    tie.close
-    (tie.spec
-    float-to-bits-b
-    sub-z
-    cast-t8
-    shl-t9
-    cast-t10
-    sub-t11
-    (λ c. search needs)
-    add-t14
-    returns
-    returns-2)
+    tie.close (tie.spec float-to-bits-b (λ c. omega (arith, within c)) (λ c. omega (arith, within c)) (λ c. omega (arith, within c))
+    (λ c. omega (arith, within c)) (λ c. omega (arith, within c)) (λ c. search needs)
+    (λ c. omega (arith, bits-lt (c .before .args .x) (held (c .before)) (c .before .pre))) returns returns-2)

@@ -40,12 +40,6 @@ by-bits-at t = and 0 by-bits-kinds.ps (is 0 by-bits-kinds.ps μ-by-bits t) by-bi
 abbrev by-bits-below : ℕ → In 0 by-bits-kinds.ps
 by-bits-below t = and 0 by-bits-kinds.ps (falls 0 by-bits-kinds.ps _<_ μ-by-bits t) by-bits.Pre
 
-by-bits-by-bits-requires : (t : ℕ) → by-bits-lts.Need-by-bits-requires (
-  by-bits-below t,
-  by-bits.Post,
-) (by-bits-at t) by-bits.Post
-by-bits-by-bits-requires t c κs = (omega (arith, c .before .before .pre .0), tt)
-
 -- r as the first branch leaves it
 stepped : (t : ℕ) (c : by-bits-lts.Joined1 (by-bits-below t, by-bits.Post) (by-bits-at t) by-bits.Post) →
     c .if1 .s ≡ times (odd (c .before .args .n)) (c .before .args .r) (c .before .args .a)
@@ -77,6 +71,4 @@ pub +by-bits-spec : {M : Type 1} → statement M
     (by-bits-below t, by-bits.Post)
     (by-bits-at t)
     by-bits.Post
-    (by-bits-by-bits-requires t)
-    (by-bits-returns t)
-    (by-bits-returns-2 t)
+    (λ c κs. (omega (arith, c .before .before .pre .0), tt)) (by-bits-returns t) (by-bits-returns-2 t)

@@ -1,6 +1,6 @@
 -- The proof of the cycle of calls {looked_bits}. The measure is the exponent: its half is less, where that is not 0.
 -- Assumes nothing.
-use mathlib.Core.Path.{_≡_, refl, sym, ap, _∙_}
+use mathlib.Core.Path.{_≡_, sym, ap, _∙_}
 use mathlib.Core.Logic.{⊎-elim}
 use Prim.Native.Nat.{ℕ, zero, suc, _/_, _%_, _*_, _^_, _<_}
 use native.Mathlib.Nat.{pow-suc}
@@ -9,24 +9,25 @@ use lib.Ieee.{Float, binary64, mul}
 use borrow.Author.Tests.{eq-eqb, ne-eqb}
 use borrow.Fn.Kinds.{In}
 use borrow.Fn.PlainCycle.{Measures, is, falls, and}
+use Rattle.sizes.specs.Lost.{looked}
 use Rattle.rules.specs.Power.{odd, lowest}
-use Rattle.rules.specs.RawPower.{taken, overBits, kept}
+use Rattle.rules.specs.RawPower.{taken, overBits}
 use Rattle.rules.proofs.Powers.{zeros}
 use Rattle.rules.proofs.powi.looked_bits.Reads as looked-bits
 use Rattle.rules.proofs.powi.looked_bits.Kinds as looked-bits-kinds
 use Rattle.rules.proofs.powi.+looked_bits.Lts-looked_bits as looked-bits-lts
-use Rattle.rules.proofs.powi.look.Reads as look-reads
+use Rattle.sizes.proofs.look.Reads as look-reads
 use Rattle.rules.proofs.powi.+looked_bits.{statement}
 use Rattle.rules.proofs.powi.+looked_bits.Tie.{close}
 
 -- no higher bit remains
-last : (a : Float) (k : ℕ) (r x : Float) (n : ℕ) → n / 2 ≡ 0 → overBits (kept a) r x (lowest (suc k) n) ≡ taken (kept a) (odd n) r x
+last : (a : Float) (k : ℕ) (r x : Float) (n : ℕ) → n / 2 ≡ 0 → overBits (looked a) r x (lowest (suc k) n) ≡ taken (looked a) (odd n) r x
 unfolding overBits lowest
-last a k r x n h = rw h (zeros (kept a) k (taken (kept a) (odd n) r x) (mul binary64 x x))
+last a k r x n h = rw h (zeros (looked a) k (taken (looked a) (odd n) r x) (mul binary64 x x))
 
 -- one remains: from its half on
 more : (a : Float) (k : ℕ) (r x out : Float) (n : ℕ) → (n / 2 ≡ 0 → ⊥) → n < 2 ^ suc k
-    → ((j : ℕ) → n / 2 < 2 ^ suc j → out ≡ overBits (kept a) (taken (kept a) (odd n) r x) (mul binary64 x x) (lowest (suc j) (n / 2))) → out ≡ overBits (kept a) r x (lowest (suc k) n)
+    → ((j : ℕ) → n / 2 < 2 ^ suc j → out ≡ overBits (looked a) (taken (looked a) (odd n) r x) (mul binary64 x x) (lowest (suc j) (n / 2))) → out ≡ overBits (looked a) r x (lowest (suc k) n)
 unfolding overBits lowest
 more a zero r x out n h l e = absurd (h (omega arith))
 more a (suc k) r x out n h l e =
@@ -42,25 +43,9 @@ looked-bits-at t = and 0 looked-bits-kinds.ps (is 0 looked-bits-kinds.ps μ-look
 abbrev looked-bits-below : ℕ → In 0 looked-bits-kinds.ps
 looked-bits-below t = and 0 looked-bits-kinds.ps (falls 0 looked-bits-kinds.ps _<_ μ-looked-bits t) looked-bits.Pre
 
-looked-bits-look-requires : (t : ℕ) → looked-bits-lts.Need-look-requires (
-  look-reads.Asked,
-  look-reads.Learnt,
-  looked-bits-below t,
-  looked-bits.Post,
-) (looked-bits-at t) looked-bits.Post
-looked-bits-look-requires t c κs = tt
-
-looked-bits-looked-bits-requires : (t : ℕ) → looked-bits-lts.Need-looked-bits-requires (
-  look-reads.Asked,
-  look-reads.Learnt,
-  looked-bits-below t,
-  looked-bits.Post,
-) (looked-bits-at t) looked-bits.Post
-looked-bits-looked-bits-requires t c κs = (omega (arith, c .before .before .pre .0), tt)
-
 -- r as the first branch leaves it
 stepped : (t : ℕ) (c : looked-bits-lts.Joined1 (look-reads.Asked, look-reads.Learnt, looked-bits-below t, looked-bits.Post) (looked-bits-at t) looked-bits.Post) →
-    c .if1 .s ≡ taken (kept (c .before .args .a)) (odd (c .before .args .n)) (c .before .args .r) (c .before .args .x)
+    c .if1 .s ≡ taken (looked (c .before .args .a)) (odd (c .before .args .n)) (c .before .args .r) (c .before .args .x)
 stepped t c =
     ⊎-elim
     (λ w. rw (eq-eqb (c .before .args .n % 2) 1 (w .0 .taken)) (w .2 ∙ w .1 .ensures))
@@ -76,7 +61,7 @@ looked-bits-returns-2 : (t : ℕ) → looked-bits-lts.Need-returns-2 (look-reads
 looked-bits-returns-2 t c k l =
     let a = c .before .before .before .args in
     more (a .a) k (a .r) (a .x) (c .looked-bits .result) (a .n) (c .before .if2 .left) l
-    (λ j h. c .looked-bits .ensures j h ∙ ap (λ (s : Float). overBits (kept (a .a)) s (mul binary64 (a .x) (a .x)) (lowest (suc j) (a .n / 2))) (stepped t (c .before .before)))
+    (λ j h. c .looked-bits .ensures j h ∙ ap (λ (s : Float). overBits (looked (a .a)) s (mul binary64 (a .x) (a .x)) (lowest (suc j) (a .n / 2))) (stepped t (c .before .before)))
 
 pub +looked-bits-spec : {M : Type 1} → statement M
 +looked-bits-spec =
@@ -86,7 +71,4 @@ pub +looked-bits-spec : {M : Type 1} → statement M
     (look-reads.Asked, look-reads.Learnt, looked-bits-below t, looked-bits.Post)
     (looked-bits-at t)
     looked-bits.Post
-    (looked-bits-look-requires t)
-    (looked-bits-looked-bits-requires t)
-    (looked-bits-returns t)
-    (looked-bits-returns-2 t)
+    (λ c κs. tt) (λ c κs. (omega (arith, c .before .before .pre .0), tt)) (looked-bits-returns t) (looked-bits-returns-2 t)

@@ -1,11 +1,11 @@
 -- `rules::bare_power` meets its contract: the bits give r, and the sign of n decides. Assumes nothing.
-use mathlib.Core.Path.{_≡_, refl, sym, _∙_, ap}
+use mathlib.Core.Path.{_≡_, sym, _∙_, ap}
 use mathlib.Core.Bool.{true, false}
 use Prim.Native.Nat.{ℕ, _<_, _^_}
 use native.Mathlib.Omega.{arith}
-use lib.IntN.{ℤ, pos, negsuc, natAbs}
+use lib.IntN.{pos, natAbs}
 use lib.Signed.{ltZ}
-use lib.Ieee.{Float, nan, inf, fin, binary64, div, ofBits}
+use lib.Ieee.{ofBits}
 use mir.Syntax.{w32}
 use mir.ValLaws.{toZ-ofZ}
 use borrow.Author.Needs.{needs}
@@ -31,7 +31,7 @@ returns c =
     let b = c .before .before .before in
     let n = b .before .before .args .n in
     let h : ltZ n (pos 0) ≡ true = rw (toZ-ofZ w32 n (b .before .before .fits .n)) at (c .before .before .if1 .taken) in
-    let f : finite (b .by-bits .result) ≡ true = cc in
+    let f : finite (b .by-bits .result) ≡ true = sym (c .before .is-finite .ensures) ∙ c .if2 .taken in
     sym (ap (rawBySign n) (sym (by-bits-is b)) ∙ inverse (λ r. r) n (b .by-bits .result) h f)
 
 returns-2 : tie.Need-returns-2
@@ -39,7 +39,7 @@ unfolding rawPower
 returns-2 c =
     let b = c .before .before .before in
     let n = b .before .before .args .n in
-    let f : finite (b .by-bits .result) ≡ false = cc in
+    let f : finite (b .by-bits .result) ≡ false = sym (c .before .is-finite .ensures) ∙ c .if2 .left in
     sym (ap (rawBySign n) (sym (by-bits-is b)) ∙ lost (λ r. r) n (b .by-bits .result) f)
 
 returns-3 : tie.Need-returns-3
@@ -51,6 +51,4 @@ returns-3 c =
     sym (ap (rawBySign n) (sym (by-bits-is b)) ∙ whole (λ r. r) n (b .by-bits .result) h)
 
 pub bare-power-spec : {M : Type 1} → statement M
-bare-power-spec =
-    tie.close
-    (tie.spec (λ c κs. search needs) (λ c κs. search needs) (λ c κs. search needs) returns returns-2 returns-3)
+bare-power-spec = tie.close (tie.spec (λ c κs. search needs) (λ c κs. search needs) (λ c κs. search needs) returns returns-2 returns-3)

@@ -70,5 +70,4 @@ returns c =
     rw (clear z f (below c)) (turned z f (below c) .same)
 
 pub magnitude-spec : {M : Type 1} → statement M
-magnitude-spec =
-    tie.close (tie.spec cast-result sub-result cast-result-2 cast-result-3 returns (λ c. search needs))
+magnitude-spec = tie.close (tie.spec cast-result sub-result cast-result-2 cast-result-3 returns (λ c. search needs))

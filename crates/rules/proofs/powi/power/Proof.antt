@@ -10,8 +10,8 @@ use borrow.Author.Tests.{le-leb, lt-leb}
 use Rattle.common.specs.Outcome.{finite, check}
 use Rattle.sizes.specs.Usual.{usualBase}
 use Rattle.rules.specs.Power.{powerRule}
-use Rattle.rules.specs.RawPower.{rawPower, keptPower}
-use Rattle.rules.proofs.Powers.{power-kept}
+use Rattle.rules.specs.RawPower.{rawPower, lookedPower}
+use Rattle.rules.proofs.Powers.{power-looked}
 use Rattle.rules.proofs.Usual.{power-usual}
 use Rattle.rules.proofs.powi.power.Statement.{statement}
 use Rattle.rules.proofs.powi.power.Tie as tie
@@ -30,7 +30,7 @@ returns c =
     let t = c .before .before .before .before in
     let s = t .before .before in
     let a = s .args in
-    let u : usualBase (a .a) ≡ true = cc in
+    let u : usualBase (a .a) ≡ true = sym (c .before .before .before .usual .ensures) ∙ c .before .before .if2 .taken in
     c .settle .ensures
     ∙ ap check (c .before .bare-power .ensures ∙ ap (rawPower (a .a)) (toZ-ofZ w32 (a .n) (s .fits .n)))
     ∙ sym (power-usual (a .a) (a .n) u (few t))
@@ -40,40 +40,24 @@ returns-2 c =
     let t = c .before .before .before .before .before .before in
     let s = t .before .before in
     let a = s .args in
-    let f : finite (a .a) ≡ true = cc in
+    let f : finite (a .a) ≡ true = sym (c .before .before .before .is-finite .ensures) ∙ c .before .before .if3 .taken in
     c .settle2 .ensures
-    ∙ ap check (c .before .looked-power .ensures ∙ ap (keptPower (a .a)) (toZ-ofZ w32 (a .n) (s .fits .n)))
-    ∙ sym (power-kept (a .a) (a .n) f (few t))
+    ∙ ap check (c .before .looked-power .ensures ∙ ap (lookedPower (a .a)) (toZ-ofZ w32 (a .n) (s .fits .n)))
+    ∙ sym (power-looked (a .a) (a .n) f (few t))
 
 returns-3 : tie.Need-returns-3
 unfolding powerRule
-returns-3 c = let f : finite (c .before .before .before .before .before .before .args .a) ≡ false = cc in rw f
+returns-3 c = rw (sym (c .before .is-finite .ensures) ∙ c .if3 .left)
 
 returns-4 : tie.Need-returns-4
 unfolding powerRule
-returns-4 c =
-    let t = c .before .before in
-    let f : finite (t .before .before .args .a) ≡ true = cc in
-    rw (f, many t)
+returns-4 c = rw (sym (c .before .is-finite2 .ensures) ∙ c .if4 .taken, many (c .before .before))
 
 returns-5 : tie.Need-returns-5
 unfolding powerRule
-returns-5 c = let f : finite (c .before .before .before .before .args .a) ≡ false = cc in rw f
+returns-5 c = rw (sym (c .before .is-finite2 .ensures) ∙ c .if4 .left)
 
 pub power-spec : {M : Type 1} → statement M
 power-spec =
-    tie.close
-    (tie.spec
-    (λ c κs. search needs)
-    (λ c κs. search needs)
-    (λ c κs. search needs)
-    (λ c κs. search needs)
-    returns
-    (λ c κs. search needs)
-    (λ c κs. search needs)
-    (λ c κs. search needs)
-    returns-2
-    returns-3
-    (λ c κs. search needs)
-    returns-4
-    returns-5)
+    tie.close (tie.spec (λ c κs. search needs) (λ c κs. search needs) (λ c κs. search needs) (λ c κs. search needs) returns (λ c κs. search needs)
+    (λ c κs. search needs) (λ c κs. search needs) returns-2 returns-3 (λ c κs. search needs) returns-4 returns-5)

@@ -12,44 +12,8 @@ Inv-loop d w₀ q₀ left₀ i₀ w q left i = Digits d w q left i
 abbrev μ-loop : tie.MeasureT-loop
 μ-loop d w₀ q₀ left₀ i₀ w q left i = 53 - i
 
-mul-w : tie.Need-mul-w Inv-loop μ-loop
-mul-w c = omega arith
-
 loop-holds : tie.Need-loop-holds Inv-loop μ-loop
 loop-holds c = start _ (c .pre .1)
-
-mul-left : tie.Need-mul-left Inv-loop μ-loop
-mul-left c = omega (arith, bound _ _ _ _ _ (c .before .loop .inv))
-
-add-left : tie.Need-add-left Inv-loop μ-loop
-add-left c = omega (arith, bound _ _ _ _ _ (c .before .loop .inv))
-
-mul-w-2 : tie.Need-mul-w-2 Inv-loop μ-loop
-mul-w-2 c = omega arith
-
-mul-q : tie.Need-mul-q Inv-loop μ-loop
-mul-q c = omega (arith, bound _ _ _ _ _ (c .before .loop .inv))
-
-mul-if1 : tie.Need-mul-if1 Inv-loop μ-loop
-mul-if1 c = omega (arith, bound _ _ _ _ _ (c .before .loop .inv))
-
-mul-left-2 : tie.Need-mul-left-2 Inv-loop μ-loop
-mul-left-2 c = omega (arith, bound _ _ _ _ _ (c .before .before .loop .inv))
-
-add-left-2 : tie.Need-add-left-2 Inv-loop μ-loop
-add-left-2 c = omega (arith, bound _ _ _ _ _ (c .before .before .loop .inv))
-
-sub-left : tie.Need-sub-left Inv-loop μ-loop
-sub-left c = omega arith
-
-add-q : tie.Need-add-q Inv-loop μ-loop
-add-q c = omega (arith, bound _ _ _ _ _ (c .before .before .loop .inv))
-
-add-i : tie.Need-add-i Inv-loop μ-loop
-add-i c = omega arith
-
-loop-less : tie.Need-loop-less Inv-loop μ-loop
-loop-less c = omega arith
 
 loop-again : tie.Need-loop-again Inv-loop μ-loop
 loop-again c =
@@ -58,9 +22,6 @@ loop-again c =
     (λ w. rw (w .1, w .2) (digit-1 _ _ _ _ _ k (c .before .loop-test .taken) (w .0 .taken)))
     (λ w. rw (w .1, w .2) (digit-0 _ _ _ _ _ k (c .before .loop-test .taken) (w .0 .left)))
     (c .if1 .came)
-
-add-result : tie.Need-add-result Inv-loop μ-loop
-add-result c = omega (arith, bound _ _ _ _ _ (c .before .before .loop .inv))
 
 returns : tie.Need-returns Inv-loop μ-loop
 returns c =
@@ -75,24 +36,9 @@ returns-2 c =
 
 pub by-digits-spec : {M : Type 1} → statement M
 by-digits-spec =
-    tie.close
-    (tie.spec
-    Inv-loop
-    μ-loop
-    mul-w
-    loop-holds
-    mul-left
-    add-left
-    mul-w-2
-    mul-q
-    mul-if1
-    mul-left-2
-    add-left-2
-    sub-left
-    add-q
-    add-i
-    loop-less
-    loop-again
-    add-result
-    returns
-    returns-2)
+    tie.close (tie.spec Inv-loop μ-loop (λ c. omega arith) loop-holds (λ c. omega (arith, bound _ _ _ _ _ (c .before .loop .inv)))
+    (λ c. omega (arith, bound _ _ _ _ _ (c .before .loop .inv))) (λ c. omega arith) (λ c. omega (arith, bound _ _ _ _ _ (c .before .loop .inv)))
+    (λ c. omega (arith, bound _ _ _ _ _ (c .before .loop .inv))) (λ c. omega (arith, bound _ _ _ _ _ (c .before .before .loop .inv)))
+    (λ c. omega (arith, bound _ _ _ _ _ (c .before .before .loop .inv))) (λ c. omega arith)
+    (λ c. omega (arith, bound _ _ _ _ _ (c .before .before .loop .inv))) (λ c. omega arith) (λ c. omega arith) loop-again
+    (λ c. omega (arith, bound _ _ _ _ _ (c .before .before .loop .inv))) returns returns-2)

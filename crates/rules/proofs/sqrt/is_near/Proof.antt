@@ -44,22 +44,5 @@ returns-6 c = λ e. never (sym e)
 
 pub is-near-spec : {M : Type 1} → statement M
 is-near-spec =
-    tie.close
-    (tie.spec
-    mul-square
-    (λ c. search needs)
-    returns
-    returns-2
-    (λ c. search needs)
-    (λ c. search needs)
-    (λ c. search needs)
-    mul-u
-    returns-3
-    returns-4
-    (λ c. search needs)
-    mul-less
-    add-less
-    (λ c. search needs)
-    (λ c. search needs)
-    returns-5
-    returns-6)
+    tie.close (tie.spec mul-square (λ c. search needs) returns returns-2 (λ c. search needs) (λ c. search needs) (λ c. search needs) mul-u returns-3
+    returns-4 (λ c. search needs) mul-less add-less (λ c. search needs) (λ c. search needs) returns-5 returns-6)

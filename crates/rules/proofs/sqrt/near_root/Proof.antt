@@ -4,28 +4,15 @@ use Rattle.rules.proofs.sqrt.near_root.Statement.{statement}
 use Rattle.rules.proofs.sqrt.near_root.Tie as tie
 
 returns : tie.Need-returns
-returns c = c .before .is-near .ensures (cc)
+returns c = c .before .is-near .ensures (c .if1 .taken)
 
 returns-2 : tie.Need-returns-2
-returns-2 c = c .before .is-near2 .ensures (cc)
+returns-2 c = c .before .is-near2 .ensures (c .if2 .taken)
 
 returns-3 : tie.Need-returns-3
-returns-3 c = c .before .is-near3 .ensures (cc)
+returns-3 c = c .before .is-near3 .ensures (c .if3 .taken)
 
 pub near-root-spec : {M : Type 1} → statement M
 near-root-spec =
-    tie.close
-    (tie.spec
-    (λ c κs. search needs)
-    (λ c κs. search needs)
-    (λ c. search needs)
-    (λ c κs. search needs)
-    (λ c. search needs)
-    (λ c. search needs)
-    (λ c κs. search needs)
-    (λ c. search needs)
-    (λ c κs. search needs)
-    returns
-    returns-2
-    returns-3
-    (λ c. search needs))
+    tie.close (tie.spec (λ c κs. search needs) (λ c κs. search needs) (λ c. search needs) (λ c κs. search needs) (λ c. search needs)
+    (λ c. search needs) (λ c κs. search needs) (λ c. search needs) (λ c κs. search needs) returns returns-2 returns-3 (λ c. search needs))

@@ -24,9 +24,6 @@ digits c = root-digits _ _ _ _ (half (c .before .before)) (c .near-root .ensures
 near-root-requires : tie.Need-near-root-requires
 near-root-requires c κs = let h = half (c .before) in omega (arith, h .0, h .1)
 
-add-result : tie.Need-add-result
-add-result c = omega (arith, digits c, c .before .before .before .before .unpack .ensures)
-
 float-from-bits-result : tie.Need-float-from-bits-result
 float-from-bits-result c =
     no-nan-bits ((c .before .before .before .before .unpack .result .e + 970) / 2 * 2 ^ 52 + c .near-root .result) (omega (arith, digits c, c .before .before .before .before .unpack .ensures))
@@ -42,13 +39,5 @@ returns c =
 
 pub positive-root-spec : {M : Type 1} → statement M
 positive-root-spec =
-    tie.close
-    (tie.spec
-    (λ c κs. search needs)
-    (λ c. search needs)
-    (λ c. search needs)
-    (λ c. search needs)
-    near-root-requires
-    add-result
-    float-from-bits-result
-    returns)
+    tie.close (tie.spec (λ c κs. search needs) (λ c. search needs) (λ c. search needs) (λ c. search needs) near-root-requires
+    (λ c. omega (arith, digits c, c .before .before .before .before .unpack .ensures)) float-from-bits-result returns)

@@ -1,46 +1,49 @@
 -- `rules::root` meets its contract: the tests choose the case. Assumes nothing.
-use mathlib.Core.Path.{ap, _∙_}
+use mathlib.Core.Path.{_≡_, sym, ap, _∙_}
+use mathlib.Core.Bool.{true}
 use mathlib.Core.Logic.{⊎-elim}
 use lib.Ieee.{ofBits}
-use Rattle.common.specs.Outcome.{value}
+use Rattle.common.specs.Outcome.{value, finite}
 use Rattle.rules.specs.Root.{rootRule}
 use Rattle.rules.proofs.Signs.{is-zero, is-negative, is-positive, above, lost}
 use borrow.Author.Needs.{needs}
 use Rattle.rules.proofs.sqrt.root.Statement.{statement}
 use Rattle.rules.proofs.sqrt.root.Tie as tie
 
+-- x is finite
+number : (c : tie.Then1) → finite (c .before .before .args .x) ≡ true
+number c = sym (c .before .is-finite .ensures) ∙ c .if1 .taken
+
 positive-root-requires : tie.Need-positive-root-requires
 unfolding ofBits
-positive-root-requires c κs = is-positive (c .before .before .before .before .args .x) (cc) (c .before .if2 .left) (c .if3 .left)
+positive-root-requires c κs = is-positive (c .before .before .before .before .args .x) (number (c .before .before)) (c .before .if2 .left) (c .if3 .left)
 
 returns : tie.Need-returns
 unfolding rootRule ofBits
 returns c =
     let x = c .before .before .before .args .x in
-    let z = is-zero x (cc) (c .if2 .taken) in
+    let z = is-zero x (number (c .before)) (c .if2 .taken) in
     rw (z .2)
 
 returns-2 : tie.Need-returns-2
 unfolding rootRule ofBits
 returns-2 c =
     let x = c .before .before .before .before .args .x in
-    let z = is-negative x (cc) (c .if3 .taken) in
+    let z = is-negative x (number (c .before .before)) (c .if3 .taken) in
     rw (z .2)
 
 returns-3 : tie.Need-returns-3
 unfolding rootRule ofBits
 returns-3 c =
     let x = c .before .before .before .before .before .args .x in
-    let z = above x (is-positive x (cc) (c .before .before .if2 .left) (c .before .if3 .left)) in
+    let z = above x (is-positive x (number (c .before .before .before)) (c .before .before .if2 .left) (c .before .if3 .left)) in
     ap value (c .positive-root .ensures) ∙ rw (z .2)
 
 returns-4 : tie.Need-returns-4
 unfolding rootRule ofBits
 returns-4 c =
     let x = c .before .before .args .x in
-    ⊎-elim (λ e. rw e) (λ e. rw (e .1)) (lost x (cc))
+    ⊎-elim (λ e. rw e) (λ e. rw (e .1)) (lost x (sym (c .before .is-finite .ensures) ∙ c .if1 .left))
 
 pub root-spec : {M : Type 1} → statement M
-root-spec =
-    tie.close
-    (tie.spec (λ c κs. search needs) positive-root-requires returns returns-2 returns-3 returns-4)
+root-spec = tie.close (tie.spec (λ c κs. search needs) positive-root-requires returns returns-2 returns-3 returns-4)

@@ -1,34 +1,10 @@
 -- `search::check_pv` meets its contract: each return by the tests that led there. Assumes nothing.
-use mathlib.Core.Path.{_≡_, sym, _∙_}
-use mathlib.Core.Bool.{true, false}
-use lib.Ieee.{Float, ofBits, round}
+use mathlib.Core.Path.{sym, _∙_}
+use lib.Ieee.{ofBits, round}
 use borrow.Author.Needs.{needs}
-use Rattle.common.specs.Outcome.{value, refused, finite}
-use Rattle.common.specs.Constant.{P-FROM, P-TO, D-FROM, D-TO}
 use Rattle.common.specs.Decimal.{decimal, whole, scaled}
-use Rattle.common.specs.Range.{within}
-use Rattle.search.specs.Calls.{densityBy, pvBox}
 use Rattle.search.proofs.calls.check_pv.Statement.{statement}
 use Rattle.search.proofs.calls.check_pv.Tie as tie
-
-module _ (p v : Float) where
-  p-lost : finite p ≡ false → pvBox p v ≡ refused 1
-  p-lost h = rw h
-
-  module _ (known-p : finite p ≡ true) where
-    v-lost : finite v ≡ false → pvBox p v ≡ refused 1
-    v-lost h = rw (known-p, h)
-
-    module _ (known-v : finite v ≡ true) where
-      p-outside : within P-FROM P-TO p ≡ false → pvBox p v ≡ refused 2
-      p-outside h = rw (known-p, known-v, h)
-
-      module _ (p-inside : within P-FROM P-TO p ≡ true) where
-        d-outside : within D-FROM D-TO (densityBy v) ≡ false → pvBox p v ≡ refused 3
-        d-outside h = rw (known-p, known-v, p-inside, h)
-
-        d-inside : within D-FROM D-TO (densityBy v) ≡ true → pvBox p v ≡ value tt
-        d-inside h = rw (known-p, known-v, p-inside, h)
 
 returns : tie.Need-returns
 unfolding ofBits decimal whole scaled round
@@ -36,9 +12,12 @@ returns c =
     let k3 = c .before .before .before in
     let k2 = k3 .before .before in
     let k1 = k2 .before .before in
-    sym (d-inside _ _
-    (sym (k1 .before .is-finite .ensures) ∙ k1 .if1 .taken) (sym (k2 .before .is-finite2 .ensures) ∙ k2 .if2 .taken)
-    (sym (k3 .before .in-p .ensures) ∙ k3 .if3 .taken) (sym (c .before .ranged .ensures) ∙ c .if4 .taken))
+    rw (
+      sym (k1 .before .is-finite .ensures) ∙ k1 .if1 .taken,
+      sym (k2 .before .is-finite2 .ensures) ∙ k2 .if2 .taken,
+      sym (k3 .before .in-p .ensures) ∙ k3 .if3 .taken,
+      sym (c .before .ranged .ensures) ∙ c .if4 .taken,
+    )
 
 returns-2 : tie.Need-returns-2
 unfolding ofBits decimal whole scaled round
@@ -46,29 +25,26 @@ returns-2 c =
     let k3 = c .before .before .before in
     let k2 = k3 .before .before in
     let k1 = k2 .before .before in
-    sym (d-outside _ _
-    (sym (k1 .before .is-finite .ensures) ∙ k1 .if1 .taken) (sym (k2 .before .is-finite2 .ensures) ∙ k2 .if2 .taken)
-    (sym (k3 .before .in-p .ensures) ∙ k3 .if3 .taken) (sym (c .before .ranged .ensures) ∙ c .if4 .left))
+    rw (
+      sym (k1 .before .is-finite .ensures) ∙ k1 .if1 .taken,
+      sym (k2 .before .is-finite2 .ensures) ∙ k2 .if2 .taken,
+      sym (k3 .before .in-p .ensures) ∙ k3 .if3 .taken,
+      sym (c .before .ranged .ensures) ∙ c .if4 .left,
+    )
 
 returns-3 : tie.Need-returns-3
 returns-3 c =
     let k2 = c .before .before in
     let k1 = k2 .before .before in
-    let a = k1 .before .before .args in
-    sym (p-outside (a .p .0) (a .v .0)
-    (sym (k1 .before .is-finite .ensures) ∙ k1 .if1 .taken) (sym (k2 .before .is-finite2 .ensures) ∙ k2 .if2 .taken)
-    (sym (c .before .in-p .ensures) ∙ c .if3 .left))
+    rw (sym (k1 .before .is-finite .ensures) ∙ k1 .if1 .taken, sym (k2 .before .is-finite2 .ensures) ∙ k2 .if2 .taken, sym (c .before .in-p .ensures) ∙ c .if3 .left)
 
 returns-4 : tie.Need-returns-4
-returns-4 c =
-    let k1 = c .before .before in
-    let a = k1 .before .before .args in
-    sym (v-lost (a .p .0) (a .v .0) (sym (k1 .before .is-finite .ensures) ∙ k1 .if1 .taken) (sym (c .before .is-finite2 .ensures) ∙ c .if2 .left))
+returns-4 c = let k1 = c .before .before in rw (sym (k1 .before .is-finite .ensures) ∙ k1 .if1 .taken, sym (c .before .is-finite2 .ensures) ∙ c .if2 .left)
 
 returns-5 : tie.Need-returns-5
-returns-5 c = let a = c .before .before .args in sym (p-lost (a .p .0) (a .v .0) (sym (c .before .is-finite .ensures) ∙ c .if1 .left))
+returns-5 c = rw (sym (c .before .is-finite .ensures) ∙ c .if1 .left)
 
 pub check-pv-spec : {M : Type 1} → statement M
 check-pv-spec =
-    tie.close
-    (tie.spec (λ c κs. search needs) (λ c κs. search needs) (λ c κs. search needs) (λ c κs. search needs) returns returns-2 returns-3 returns-4 returns-5)
+    tie.close (tie.spec (λ c κs. search needs) (λ c κs. search needs) (λ c κs. search needs) (λ c κs. search needs) returns returns-2 returns-3
+    returns-4 returns-5)

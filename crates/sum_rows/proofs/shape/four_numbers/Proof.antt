@@ -3,7 +3,8 @@ use mathlib.Core.Path.{sym, ap, _∙_}
 use lib.Ieee.{ofBits}
 use Rattle.polynomial.specs.Columns.{paperFour}
 use Rattle.polynomial.specs.declared.FourAnswer.{FourAnswer}
-use Rattle.sum_rows.specs.Shape.{refusedBy, fourReply}
+use Rattle.reply.specs.Shape.{refusedBy}
+use Rattle.sum_rows.specs.Shape.{fourReply}
 use borrow.Author.Needs.{needs}
 use Rattle.sum_rows.proofs.shape.four_numbers.Statement.{statement}
 use Rattle.sum_rows.proofs.shape.four_numbers.Tie as tie
@@ -19,6 +20,4 @@ returns-2 c =
     ∙ sym (ap (λ (x : FourAnswer). fourReply (paperFour x)) (c .before .before .before .a2 .given .1))
 
 pub four-numbers-spec : {M : Type 1} → statement M
-four-numbers-spec =
-    tie.close
-    (tie.spec (λ c. search needs) (λ c. search needs) (λ c κs. search needs) (λ c κs. search needs) returns returns-2)
+four-numbers-spec = tie.close (tie.spec (λ c. search needs) (λ c. search needs) (λ c κs. search needs) (λ c κs. search needs) returns returns-2)

@@ -3,7 +3,8 @@ use mathlib.Core.Path.{sym, ap, _∙_}
 use lib.Ieee.{ofBits}
 use Rattle.polynomial.specs.Columns.{paperPair}
 use Rattle.polynomial.specs.declared.PairAnswer.{PairAnswer}
-use Rattle.sum_rows.specs.Shape.{refusedBy, twoReply}
+use Rattle.reply.specs.Shape.{refusedBy}
+use Rattle.sum_rows.specs.Shape.{twoReply}
 use borrow.Author.Needs.{needs}
 use Rattle.sum_rows.proofs.shape.two_numbers.Statement.{statement}
 use Rattle.sum_rows.proofs.shape.two_numbers.Tie as tie
@@ -19,6 +20,4 @@ returns-2 c =
     ∙ sym (ap (λ (x : PairAnswer). twoReply (paperPair x)) (c .before .before .before .a2 .given .1))
 
 pub two-numbers-spec : {M : Type 1} → statement M
-two-numbers-spec =
-    tie.close
-    (tie.spec (λ c. search needs) (λ c. search needs) (λ c κs. search needs) (λ c κs. search needs) returns returns-2)
+two-numbers-spec = tie.close (tie.spec (λ c. search needs) (λ c. search needs) (λ c κs. search needs) (λ c κs. search needs) returns returns-2)

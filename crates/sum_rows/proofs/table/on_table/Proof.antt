@@ -52,17 +52,6 @@ pub on-table-spec : {M : Type 1} → statement M
 on-table-spec =
     tie.close
     (tie.spec
-    (λ c κs. search needs)
-    (λ c κs. search needs)
-    (λ c κs. search needs)
-    (λ c κs. search needs)
-    (λ c κs. search needs)
-    (λ c κs. search needs)
-    array-share-prefix-is
-    slice-aggregate-work
-    array-share-prefix-js
-    slice-aggregate-work-2
-    array-share-prefix-ns
-    slice-aggregate-work-3
-    (λ c κs. search needs)
-    returns)
+    (λ c κs. search needs) (λ c κs. search needs) (λ c κs. search needs) (λ c κs. search needs) (λ c κs. search needs) (λ c κs. search needs)
+    array-share-prefix-is slice-aggregate-work array-share-prefix-js slice-aggregate-work-2 array-share-prefix-ns slice-aggregate-work-3
+    (λ c κs. search needs) returns)

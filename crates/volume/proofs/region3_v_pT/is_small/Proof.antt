@@ -1,4 +1,4 @@
--- `volume::is_small` meets its contract: by the sign of the distance. Assumes nothing.
+-- `volume::is_small`: by the sign of the distance.
 use lib.Ieee.{ofBits}
 use Rattle.volume.proofs.region3_v_pT.is_small.Statement.{statement}
 use Rattle.volume.proofs.region3_v_pT.is_small.Tie as tie

@@ -1,5 +1,4 @@
--- `volume::origin_at` meets its contract: the rule by its distances from the critical point, and each return by the tests that led there.
--- Assumes nothing.
+-- `volume::origin_at`: the rule by its distances from the critical point, and each return by the tests that led there.
 use mathlib.Core.Path.{_≡_, sym, _∙_}
 use mathlib.Core.Bool.{true, false}
 use lib.Ieee.{Float, binary64, sub, lt, ofBits, round}
@@ -88,8 +87,5 @@ returns-5 c = sym (t-lost _ _ (sym (c .before .is-finite .ensures) ∙ c .if1 .l
 
 pub origin-at-spec : {M : Type 1} → statement M
 origin-at-spec =
-    tie.close
-    (tie.spec
-    (λ c κs. search needs) (λ c κs. search needs) (λ c κs. search needs) (λ c κs. search needs) returns
-    (λ c κs. search needs) returns-2 returns-3
-    (λ c κs. search needs) returns-4 returns-5)
+    tie.close (tie.spec (λ c κs. search needs) (λ c κs. search needs) (λ c κs. search needs) (λ c κs. search needs) returns (λ c κs. search needs)
+    returns-2 returns-3 (λ c κs. search needs) returns-4 returns-5)

@@ -1,27 +1,16 @@
--- `volume::pT2v_at` meets its contract: the origin, then the volume. Assumes nothing.
-use mathlib.Core.Path.{_≡_, sym, ap, _∙_}
+-- `volume::pT2v_at`: the origin, then the volume.
 use borrow.Author.Needs.{needs}
-use Rattle.common.specs.Outcome.{Outcome, then}
-use Rattle.record.specs.declared.Origin.{Origin}
-use Rattle.volume.specs.declared.OriginAnswer.{OriginAnswer}
-use Rattle.volume.specs.Volumes.{paperOrigin, volumeFrom, pT2v-at}
+use Rattle.volume.specs.Volumes.{pT2v-at}
 use Rattle.volume.proofs.region3_v_pT.pT2v_at.Statement.{statement}
 use Rattle.volume.proofs.region3_v_pT.pT2v_at.Tie as tie
 
--- the rule, from the origin that was found
-answered : (c : tie.After-origin-at) (w : OriginAnswer) → c .origin-at .result ≡ w
-    → pT2v-at (c .before .args .p .0) (c .before .args .t .0) ≡ then (paperOrigin w) (λ o. volumeFrom o (c .before .args .p .0) (c .before .args .t .0))
-unfolding pT2v-at
-answered c w e =
-    let a = c .before .args in
-    ap (λ (q : Outcome Origin). then q (λ o. volumeFrom o (a .p .0) (a .t .0))) (sym (c .origin-at .ensures) ∙ ap paperOrigin e)
-
 returns : tie.Need-returns
-returns c = c .volume-from .ensures ∙ sym (answered (c .before .before .before .before) _ (c .before .before .o .given .1))
+unfolding pT2v-at
+returns c = let m = c .before .before in rw (← (m .before .before .origin-at .ensures), m .o .given .1) (c .volume-from .ensures)
 
 returns-2 : tie.Need-returns-2
-returns-2 c = sym (answered (c .before .before .before) _ (c .before .k .given .1))
+unfolding pT2v-at
+returns-2 c = rw (← (c .before .before .before .origin-at .ensures), c .before .k .given .1)
 
 pub pT2v-at-spec : {M : Type 1} → statement M
-pT2v-at-spec =
-    tie.close (tie.spec (λ c κs. search needs) (λ c. search needs) (λ c κs. search needs) (λ c. search needs) returns returns-2)
+pT2v-at-spec = tie.close (tie.spec (λ c κs. search needs) (λ c. search needs) (λ c κs. search needs) (λ c. search needs) returns returns-2)

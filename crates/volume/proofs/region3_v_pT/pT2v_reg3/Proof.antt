@@ -1,8 +1,6 @@
--- `volume::pT2v_reg3` meets its contract: the box, then the volume of the state. Assumes nothing.
-use mathlib.Core.Path.{sym, ap, _∙_}
+-- `volume::pT2v_reg3`: the box, then the volume of the state.
 use borrow.Author.Needs.{needs}
-use Rattle.common.proofs.Calls.{going-on, turned-away}
-use Rattle.volume.specs.Volumes.{volumeIn, pT2v-reg3Rule}
+use Rattle.volume.specs.Volumes.{pT2v-reg3Rule}
 use Rattle.volume.proofs.region3_v_pT.pT2v_reg3.Statement.{statement}
 use Rattle.volume.proofs.region3_v_pT.pT2v_reg3.Tie as tie
 
@@ -10,13 +8,12 @@ returns : tie.Need-returns
 unfolding pT2v-reg3Rule
 returns c =
     let s = c .before .before in
-    c .volume-in .ensures ∙ ap volumeIn (c .before .found-at .ensures) ∙ sym (going-on (s .before .before .check-pT .ensures) _ (s .enum-told .given .1))
+    rw (← (s .before .before .check-pT .ensures), s .enum-told .given .1, ← (c .before .found-at .ensures)) (c .volume-in .ensures)
 
 returns-2 : tie.Need-returns-2
 unfolding pT2v-reg3Rule
-returns-2 c = sym (turned-away (c .before .before .before .check-pT .ensures) _ _ (c .before .k .given .1))
+returns-2 c = rw (← (c .before .before .before .check-pT .ensures), c .before .k .given .1)
 
 pub pT2v-reg3-spec : {M : Type 1} → statement M
 pT2v-reg3-spec =
-    tie.close
-    (tie.spec (λ c κs. search needs) (λ c. search needs) (λ c κs. search needs) (λ c κs. search needs) (λ c. search needs) returns returns-2)
+    tie.close (tie.spec (λ c κs. search needs) (λ c. search needs) (λ c κs. search needs) (λ c κs. search needs) (λ c. search needs) returns returns-2)

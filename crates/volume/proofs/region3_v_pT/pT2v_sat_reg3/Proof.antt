@@ -1,4 +1,4 @@
--- `volume::pT2v_sat_reg3` meets its contract: the ranges of the saturation line, then the volume with its density. Assumes nothing.
+-- `volume::pT2v_sat_reg3`: the ranges of the saturation line, then the volume with its density.
 use mathlib.Core.Path.{sym, ap, _∙_}
 use lib.Ieee.{ofBits}
 use borrow.Author.Needs.{needs}
@@ -27,7 +27,5 @@ returns-2 c = sym (turned-away (c .before .before .before .check-pair .ensures) 
 
 pub pT2v-sat-reg3-spec : {M : Type 1} → statement M
 pT2v-sat-reg3-spec =
-    tie.close
-    (tie.spec
-    (λ c κs. search needs) (λ c. search needs) (λ c κs. search needs) (λ c κs. search needs) (λ c κs. search needs) (λ c. search needs)
-    returns returns-2)
+    tie.close (tie.spec (λ c κs. search needs) (λ c. search needs) (λ c κs. search needs) (λ c κs. search needs) (λ c κs. search needs)
+    (λ c. search needs) returns returns-2)

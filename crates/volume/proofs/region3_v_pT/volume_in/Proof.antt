@@ -1,4 +1,4 @@
--- `volume::volume_in` meets its contract: by the case of the state. Assumes nothing.
+-- `volume::volume_in`: by the case of the state.
 use borrow.Author.Needs.{needs}
 use Rattle.volume.proofs.region3_v_pT.volume_in.Statement.{statement}
 use Rattle.volume.proofs.region3_v_pT.volume_in.Tie as tie

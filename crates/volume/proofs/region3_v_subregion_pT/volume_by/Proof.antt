@@ -1,4 +1,4 @@
--- `volume::volume_by` meets its contract: each arm's proof has the shape of its equation. Assumes nothing.
+-- `volume::volume_by`: each arm's proof has the shape of its equation.
 use Rattle.algo.proofs.Step.{raw-sumOf}
 use Rattle.common.proofs.Formulas.{raw-first, raw-less, raw-times, named}
 use Rattle.common.specs.Formula.{Raw}
@@ -10,7 +10,6 @@ use lib.Ieee.Fits.{sub-fits}
 use borrow.Author.Needs.{needs}
 use Rattle.common.specs.Outcome.{orNan}
 use Rattle.rules.proofs.Formulas.{raw-powerOf, raw-rootOf, raw-exponentialOf}
-use Rattle.tables.specs.Summed.{summed}
 use Rattle.volume.specs.Equation.{less, volumeBy}
 use Rattle.volume.proofs.region3_v_subregion_pT.volume_by.Statement.{statement}
 use Rattle.volume.proofs.region3_v_subregion_pT.volume_by.Tie as tie
@@ -25,79 +24,34 @@ of-f64 x s y = sub-fits binary64 (div binary64 x s) y
 
 returns : tie.Need-returns
 unfolding volumeBy
-returns c =
-    let s = c .before .before in
-    let a = s .before .before .args in
-    let k = s .e .given .0 in
-    let x = reduced (a .p) (k .1 .0) (k .1 .1 .1 .0) in
-    let y = reduced (a .t) (k .1 .1 .0) (k .1 .1 .1 .1 .0) in
-    rw (s .e .given .1) (sym (raw-times (k .0) (named (c .letter-sum .ensures) (raw-sumOf (summed (a .l)) x y)) .is))
+returns c = rw (c .before .before .e .given .1) (sym (raw-times _ (named (c .letter-sum .ensures) (raw-sumOf _ (reduced _ _ _) (reduced _ _ _))) .is))
 
 returns-2 : tie.Need-returns-2
 unfolding volumeBy
-returns-2 c =
-    let s = c .before .before .before in
-    let a = s .before .before .args in
-    let k = s .e2 .given .0 in
-    let x = reduced (a .p) (k .1 .0) (k .1 .1 .1 .0) in
-    let y = reduced (a .t) (k .1 .1 .0) (k .1 .1 .1 .1 .0) in
-    let u = named (c .before .raw-root .ensures) (raw-rootOf (of-f64 (a .p) (k .1 .0) (k .1 .1 .1 .0)) x) in
-    rw (s .e2 .given .1) (sym (raw-times (k .0) (named (c .letter-sum2 .ensures) (raw-sumOf (summed (a .l)) u y)) .is))
+returns-2 c = rw (c .before .before .before .e2 .given .1) (sym (raw-times _ (named (c .letter-sum2 .ensures) (raw-sumOf _ (named (c .before .raw-root .ensures) (raw-rootOf (of-f64 _ _ _) (reduced _ _ _))) (reduced _ _ _))) .is))
 
 returns-3 : tie.Need-returns-3
 unfolding volumeBy
-returns-3 c =
-    let s = c .before .before .before .before in
-    let a = s .before .before .args in
-    let k = s .e3 .given .0 in
-    let x = reduced (a .p) (k .1 .0) (k .1 .1 .1 .0) in
-    let y = reduced (a .t) (k .1 .1 .0) (k .1 .1 .1 .1 .0) in
-    let u = named (c .before .before .raw-root2 .ensures) (raw-rootOf (of-f64 (a .t) (k .1 .1 .0) (k .1 .1 .1 .1 .0)) y) in
-    let w = named (c .before .raw-root3 .ensures) (raw-rootOf (subst T (sym (c .before .before .raw-root2 .ok)) tt) u) in
-    rw (s .e3 .given .1) (sym (raw-times (k .0) (named (c .letter-sum3 .ensures) (raw-sumOf (summed (a .l)) x w)) .is))
+returns-3 c = rw (c .before .before .before .before .e3 .given .1) (sym (raw-times _ (named (c .letter-sum3 .ensures) (raw-sumOf _ (reduced _ _ _)
+    (named (c .before .raw-root3 .ensures) (raw-rootOf (subst T (sym (c .before .before .raw-root2 .ok)) tt) (named (c .before .before .raw-root2 .ensures) (raw-rootOf (of-f64 _ _ _) (reduced _ _ _))))))) .is))
 
 returns-4 : tie.Need-returns-4
 unfolding volumeBy
-returns-4 c =
-    let s = c .before .before .before .before in
-    let a = s .before .before .args in
-    let k = s .e4 .given .0 in
-    let x = reduced (a .p) (k .1 .0) (k .1 .1 .1 .0) in
-    let y = reduced (a .t) (k .1 .1 .0) (k .1 .1 .1 .1 .0) in
-    let q = named (c .before .before .letter-sum4 .ensures) (raw-sumOf (summed (a .l)) x y) in
-    rw (s .e4 .given .1) (sym (raw-times (k .0) (named (c .or-nan .ensures ∙ ap orNan (c .before .power .ensures)) (raw-powerOf (pos 4) q)) .is))
+returns-4 c = rw (c .before .before .before .before .e4 .given .1) (sym (raw-times _ (named (c .or-nan .ensures ∙ ap orNan (c .before .power .ensures)) (raw-powerOf (pos 4)
+    (named (c .before .before .letter-sum4 .ensures) (raw-sumOf _ (reduced _ _ _) (reduced _ _ _))))) .is))
 
 returns-5 : tie.Need-returns-5
 unfolding volumeBy
-returns-5 c =
-    let s = c .before .before .before .before .before in
-    let a = s .before .before .args in
-    let k = s .e5 .given .0 in
-    let x = reduced (a .p) (k .1 .0) (k .1 .1 .1 .0) in
-    let y = reduced (a .t) (k .1 .1 .0) (k .1 .1 .1 .1 .0) in
-    let u = named (c .before .before .before .raw-root4 .ensures) (raw-rootOf (of-f64 (a .p) (k .1 .0) (k .1 .1 .1 .0)) x) in
-    let q = named (c .before .before .letter-sum5 .ensures) (raw-sumOf (summed (a .l)) u y) in
-    rw (s .e5 .given .1) (sym (raw-times (k .0) (named (c .or-nan2 .ensures ∙ ap orNan (c .before .power2 .ensures)) (raw-powerOf (pos 4) q)) .is))
+returns-5 c = rw (c .before .before .before .before .before .e5 .given .1) (sym (raw-times _ (named (c .or-nan2 .ensures ∙ ap orNan (c .before .power2 .ensures)) (raw-powerOf (pos 4)
+    (named (c .before .before .letter-sum5 .ensures) (raw-sumOf _ (named (c .before .before .before .raw-root4 .ensures) (raw-rootOf (of-f64 _ _ _) (reduced _ _ _))) (reduced _ _ _))))) .is))
 
 returns-6 : tie.Need-returns-6
 unfolding volumeBy
-returns-6 c =
-    let s = c .before .before .before in
-    let a = s .before .before .args in
-    let k = s .e6 .given .0 in
-    let x = reduced (a .p) (k .1 .0) (k .1 .1 .1 .0) in
-    let y = reduced (a .t) (k .1 .1 .0) (k .1 .1 .1 .1 .0) in
-    let q = named (c .before .letter-sum6 .ensures) (raw-sumOf (summed (a .l)) x y) in
-    rw (s .e6 .given .1) (sym (raw-times (k .0) (named (c .raw-exponential .ensures) (raw-exponentialOf q)) .is))
+returns-6 c = rw (c .before .before .before .e6 .given .1) (sym (raw-times _ (named (c .raw-exponential .ensures) (raw-exponentialOf (named (c .before .letter-sum6 .ensures) (raw-sumOf _ (reduced _ _ _) (reduced _ _ _))))) .is))
 
 pub volume-by-spec : {M : Type 1} → statement M
 volume-by-spec =
-    tie.close
-    (tie.spec
-    (λ c. search needs) (λ c κs. search needs)
-    (λ c. search needs) (λ c κs. search needs) (λ c κs. search needs)
-    (λ c. search needs) (λ c κs. search needs) (λ c κs. search needs) (λ c κs. search needs)
-    (λ c. search needs) (λ c κs. search needs) (λ c κs. search needs) (λ c κs. search needs)
-    (λ c. search needs) (λ c κs. search needs) (λ c κs. search needs) (λ c κs. search needs) (λ c κs. search needs)
-    (λ c. search needs) (λ c κs. search needs) (λ c κs. search needs)
-    returns returns-2 returns-3 returns-4 returns-5 returns-6)
+    tie.close (tie.spec (λ c. search needs) (λ c κs. search needs) (λ c. search needs) (λ c κs. search needs) (λ c κs. search needs)
+    (λ c. search needs) (λ c κs. search needs) (λ c κs. search needs) (λ c κs. search needs) (λ c. search needs) (λ c κs. search needs)
+    (λ c κs. search needs) (λ c κs. search needs) (λ c. search needs) (λ c κs. search needs) (λ c κs. search needs) (λ c κs. search needs)
+    (λ c κs. search needs) (λ c. search needs) (λ c κs. search needs) (λ c κs. search needs) returns returns-2 returns-3 returns-4 returns-5 returns-6)

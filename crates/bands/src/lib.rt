@@ -1,0 +1,151 @@
+// The bands by p away from the critical point. Each works its boundaries out, tests once that none is lost, and hands them to its chooser. Between 19
+// and 25 MPa no power of p can be lost: the bands there work the rows in p with no look at the powers. Which p has which band is in crate boundary.
+use boundaries::AB;
+use boundaries::CD;
+use boundaries::GH;
+use boundaries::IJ;
+use boundaries::JK;
+use boundaries::MN;
+use boundaries::OP;
+use boundaries::bare_tabled;
+use boundaries::straight;
+use boundaries::tabled;
+use choosers::by_ab;
+use choosers::by_cdef;
+use choosers::by_chijk;
+use choosers::by_clmnopjk;
+use choosers::by_csrk;
+use choosers::by_cst;
+use choosers::by_ct;
+use common::Kelvin;
+use common::MPa;
+use common::Refusal;
+use common::is_finite;
+use r4::raw_T_saturation;
+use subregion::Letter;
+use subregion::LetterAnswer;
+ghost use mathlib.Core.Path.{_≡_};
+ghost use Rattle.common.specs.Outcome.{finite};
+ghost use Rattle.common.specs.Sum.{every};
+ghost use Rattle.subregion.specs.Letter.{paperLetter};
+ghost use Rattle.bands.specs.Bands.{rawAb, rawCdef, rawChijk, rawClmnopjk, rawCsrk, rawCst, rawCt};
+
+pub fn all_finite(ts: &[f64]) -> bool
+    ensures { λ r. ⌜ r ≡ every finite (now (ts .entry)) ⌝ }
+{
+    let mut i = 0;
+    while i < ts.len() {
+        if is_finite(ts[i]) {
+            i += 1;
+        } else {
+            return false;
+        }
+    }
+    true
+}
+
+pub fn band_ab(p: MPa, t: Kelvin) -> LetterAnswer
+    ensures { λ r. ⌜ paperLetter r ≡ rawAb (p .0) (t .0) ⌝ }
+{
+    let tab = tabled(AB, p);
+    if is_finite(tab) {
+        return LetterAnswer::Value(by_ab(Kelvin(tab), t));
+    }
+    LetterAnswer::Refused(Refusal::Step)
+}
+
+pub fn band_cdef(p: MPa, t: Kelvin) -> LetterAnswer
+    ensures { λ r. ⌜ paperLetter r ≡ rawCdef (p .0) (t .0) ⌝ }
+{
+    let tab = tabled(AB, p);
+    let tcd = tabled(CD, p);
+    let tef = straight(p);
+    if all_finite(&[tab, tcd, tef]) {
+        return LetterAnswer::Value(by_cdef(Kelvin(tcd), Kelvin(tab), Kelvin(tef), t));
+    }
+    LetterAnswer::Refused(Refusal::Step)
+}
+
+pub fn band_chijk(second: Letter, p: MPa, t: Kelvin) -> LetterAnswer
+    ensures { λ r. ⌜ paperLetter r ≡ rawChijk second (p .0) (t .0) ⌝ }
+{
+    let x = p.0;
+    let tcd = bare_tabled(CD, x);
+    let tef = straight(p);
+    let tgh = bare_tabled(GH, x);
+    let tij = bare_tabled(IJ, x);
+    let tjk = bare_tabled(JK, x);
+    if all_finite(&[tcd, tef, tgh, tij, tjk]) {
+        return LetterAnswer::Value(by_chijk(
+            second,
+            Kelvin(tcd),
+            Kelvin(tgh),
+            Kelvin(tef),
+            Kelvin(tij),
+            Kelvin(tjk),
+            t,
+        ));
+    }
+    LetterAnswer::Refused(Refusal::Step)
+}
+
+pub fn band_clmnopjk(p: MPa, t: Kelvin) -> LetterAnswer
+    ensures { λ r. ⌜ paperLetter r ≡ rawClmnopjk (p .0) (t .0) ⌝ }
+{
+    let x = p.0;
+    let tcd = bare_tabled(CD, x);
+    let tef = straight(p);
+    let tgh = bare_tabled(GH, x);
+    let tij = bare_tabled(IJ, x);
+    let tjk = bare_tabled(JK, x);
+    let tmn = bare_tabled(MN, x);
+    let top = tabled(OP, p);
+    if all_finite(&[tcd, tef, tgh, tij, tjk, tmn, top]) {
+        return LetterAnswer::Value(by_clmnopjk(
+            Kelvin(tcd),
+            Kelvin(tgh),
+            Kelvin(tmn),
+            Kelvin(tef),
+            Kelvin(top),
+            Kelvin(tij),
+            Kelvin(tjk),
+            t,
+        ));
+    }
+    LetterAnswer::Refused(Refusal::Step)
+}
+
+pub fn band_csrk(p: MPa, t: Kelvin) -> LetterAnswer
+    ensures { λ r. ⌜ paperLetter r ≡ rawCsrk (p .0) (t .0) ⌝ }
+{
+    let x = p.0;
+    let tcd = bare_tabled(CD, x);
+    let tjk = bare_tabled(JK, x);
+    let tsat = raw_T_saturation(p);
+    if all_finite(&[tcd, tjk, tsat]) {
+        return LetterAnswer::Value(by_csrk(Kelvin(tcd), Kelvin(tsat), Kelvin(tjk), t));
+    }
+    LetterAnswer::Refused(Refusal::Step)
+}
+
+pub fn band_cst(p: MPa, t: Kelvin) -> LetterAnswer
+    ensures { λ r. ⌜ paperLetter r ≡ rawCst (p .0) (t .0) ⌝ }
+{
+    let x = p.0;
+    let tcd = bare_tabled(CD, x);
+    let tsat = raw_T_saturation(p);
+    if all_finite(&[tcd, tsat]) {
+        return LetterAnswer::Value(by_cst(Kelvin(tcd), Kelvin(tsat), t));
+    }
+    LetterAnswer::Refused(Refusal::Step)
+}
+
+pub fn band_ct(p: MPa, t: Kelvin) -> LetterAnswer
+    ensures { λ r. ⌜ paperLetter r ≡ rawCt (p .0) (t .0) ⌝ }
+{
+    let tsat = raw_T_saturation(p);
+    if is_finite(tsat) {
+        return LetterAnswer::Value(by_ct(Kelvin(tsat), t));
+    }
+    LetterAnswer::Refused(Refusal::Step)
+}

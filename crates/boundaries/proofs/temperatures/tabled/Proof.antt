@@ -1,0 +1,30 @@
+-- `boundaries::temperatures::tabled` meets its contract: at a usual x the two walks are one. Assumes nothing.
+use mathlib.Core.Path.{_≡_, sym, ap, _∙_}
+use mathlib.Core.Bool.{true}
+use Rattle.sizes.specs.Usual.{usualBase}
+use Rattle.boundaries.specs.Boundary.{Row, rowAt}
+use Rattle.boundaries.specs.Raw.{argumentIn, rawArgument, rawSum}
+use Rattle.boundaries.proofs.TableSums.{usual-sum, table-few}
+use borrow.Author.Needs.{needs}
+use Rattle.boundaries.proofs.temperatures.tabled.Statement.{statement}
+use Rattle.boundaries.proofs.temperatures.tabled.Tie as tie
+
+-- what the row's sum is in
+x-is : (c : tie.After-argument) → let a = c .before .before .args in c .argument .result ≡ rawArgument (argumentIn (rowAt (a .k))) (a .p .0)
+x-is c = c .argument .ensures ∙ ap (λ (r : Row). rawArgument (argumentIn r) (c .before .before .args .p .0)) (c .before .row-at .ensures)
+
+returns : tie.Need-returns
+returns c =
+    let d = c .before .before .before in
+    let k = d .before .before .args .k in
+    let x = d .argument .result in
+    let u : usualBase x ≡ true = sym (c .before .before .usual .ensures) ∙ c .before .if1 .taken in
+    c .bare-tabled .ensures ∙ usual-sum (rowAt k) x u (table-few k) ∙ ap (rawSum (rowAt k)) (x-is d)
+
+returns-2 : tie.Need-returns-2
+returns-2 c = c .ruled-tabled .ensures ∙ ap (rawSum (rowAt (c .before .before .before .before .before .args .k))) (x-is (c .before .before .before))
+
+pub tabled-spec : {M : Type 1} → statement M
+tabled-spec =
+    tie.close (tie.spec (λ c κs. search needs) (λ c κs. search needs) (λ c κs. search needs) (λ c κs. search needs) (λ c κs. search needs) returns
+    returns-2)

@@ -1,0 +1,146 @@
+// The letter by p and t: which band p lies in, and the bands round the critical point. Each of these works its boundaries out, tests once that none is
+// lost, and hands them to its chooser; the other bands are in crate bands. Last the call, behind its box and the border with region 2.
+use bands::all_finite;
+use bands::band_ab;
+use bands::band_cdef;
+use bands::band_chijk;
+use bands::band_clmnopjk;
+use bands::band_csrk;
+use bands::band_cst;
+use bands::band_ct;
+use border::check_region3;
+use boundaries::CD;
+use boundaries::JK;
+use boundaries::QU;
+use boundaries::RX;
+use boundaries::UV;
+use boundaries::WX;
+use boundaries::bare_tabled;
+use boundaries::straight;
+use boundaries::tabled;
+use choosers::Near;
+use choosers::by_saturated;
+use choosers::by_uvwx;
+use choosers::by_uyzx;
+use choosers::round_critical;
+use common::Kelvin;
+use common::MPa;
+use common::Refusal;
+use common::Verdict;
+use common::is_finite;
+use r4::raw_T_saturation;
+use subregion::Letter;
+use subregion::LetterAnswer;
+ghost use mathlib.Core.Path.{_≡_};
+ghost use mathlib.Core.Bool.{false};
+ghost use lib.Ieee.{lt};
+ghost use Rattle.common.specs.Decimal.{whole};
+ghost use Rattle.subregion.specs.Letter.{paperLetter};
+ghost use Rattle.choosers.specs.Choosers.{bandTo23, bandTo40};
+ghost use Rattle.boundaries.specs.Raw.{Bare};
+ghost use Rattle.boundary.specs.Choice.{nearRule, cq-rkRule, letterBy, letterAt, letterRule};
+
+// p_saturation(643.15).
+const LIMIT: f64 = 21.0433673189753;
+
+// The small regions round the critical point.
+fn band_near(p: MPa, t: Kelvin) -> LetterAnswer
+    ensures { λ r. ⌜ (Bare (p .0) → paperLetter r ≡ nearRule (p .0) (t .0)) ⌝ }
+{
+    let x = p.0;
+    let tuv = bare_tabled(UV, x);
+    let twx = tabled(WX, p);
+    let tef = straight(p);
+    if all_finite(&[tuv, twx, tef]) {
+        if x > 22.11 {
+            return LetterAnswer::Value(by_uvwx(Kelvin(tuv), Kelvin(tef), Kelvin(twx), t));
+        }
+        if x > 22.064 {
+            return LetterAnswer::Value(by_uyzx(Kelvin(tuv), Kelvin(tef), Kelvin(twx), t));
+        }
+        let tsat = raw_T_saturation(p);
+        if is_finite(tsat) {
+            return LetterAnswer::Value(by_saturated(Kelvin(tsat), Kelvin(tuv), Kelvin(twx), p, t));
+        }
+        return LetterAnswer::Refused(Refusal::Step);
+    }
+    LetterAnswer::Refused(Refusal::Step)
+}
+
+fn band_cq_rk(p: MPa, t: Kelvin) -> LetterAnswer
+    ensures { λ r. ⌜ (Bare (p .0) → paperLetter r ≡ cq-rkRule (p .0) (t .0)) ⌝ }
+{
+    let x = p.0;
+    let tcd = bare_tabled(CD, x);
+    let tqu = bare_tabled(QU, x);
+    let trx = bare_tabled(RX, x);
+    let tjk = bare_tabled(JK, x);
+    if all_finite(&[tcd, tqu, trx, tjk]) {
+        match round_critical(Kelvin(tcd), Kelvin(tqu), Kelvin(trx), Kelvin(tjk), t) {
+            Near::Found(l) => return LetterAnswer::Value(l),
+            Near::Inside => return band_near(p, t),
+        }
+    }
+    LetterAnswer::Refused(Refusal::Step)
+}
+
+// Up to 23 MPa.
+fn up_to_23(p: MPa, t: Kelvin) -> LetterAnswer
+    ensures { λ r. ⌜ (lt (whole 25) (p .0) ≡ false → paperLetter r ≡ letterBy bandTo23 (p .0) (t .0)) ⌝ }
+{
+    let x = p.0;
+    if x > 22.5 {
+        return band_clmnopjk(p, t);
+    }
+    if x > LIMIT {
+        return band_cq_rk(p, t);
+    }
+    if x > 20.5 {
+        return band_csrk(p, t);
+    }
+    if x > 19.00881189173929 {
+        return band_cst(p, t);
+    }
+    band_ct(p, t)
+}
+
+// Up to 40 MPa.
+fn up_to_40(p: MPa, t: Kelvin) -> LetterAnswer
+    ensures { λ r. ⌜ paperLetter r ≡ letterBy bandTo40 (p .0) (t .0) ⌝ }
+{
+    let x = p.0;
+    if x > 25.0 {
+        return band_cdef(p, t);
+    }
+    if x > 23.5 {
+        return band_chijk(Letter::G, p, t);
+    }
+    if x > 23.0 {
+        return band_chijk(Letter::L, p, t);
+    }
+    up_to_23(p, t)
+}
+
+// The letter by the bands alone, whatever p and t are: no box is tested. For calls that have tested one of their own.
+pub fn letter_at(p: MPa, t: Kelvin) -> LetterAnswer
+    ensures { λ r. ⌜ paperLetter r ≡ letterAt (p .0) (t .0) ⌝ }
+{
+    let x = p.0;
+    if x > 40.0 {
+        if x <= 100.0 {
+            return band_ab(p, t);
+        }
+        return band_cdef(p, t);
+    }
+    up_to_40(p, t)
+}
+
+// The letter of the subregion that (p, t) lies in: refused with 8 beyond the border with region 2.
+pub fn sub_region3_pT(p: MPa, t: Kelvin) -> LetterAnswer
+    ensures { λ r. ⌜ paperLetter r ≡ letterRule (p .0) (t .0) ⌝ }
+{
+    match check_region3(p, t) {
+        Verdict::Accepted => letter_at(p, t),
+        Verdict::Refused(k) => LetterAnswer::Refused(k),
+    }
+}

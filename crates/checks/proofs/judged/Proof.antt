@@ -1,0 +1,6 @@
+-- `checks::judged` meets its contract: by the test. Assumes nothing.
+use Rattle.checks.proofs.judged.Statement.{statement}
+use Rattle.checks.proofs.judged.Tie as tie
+
+pub judged-spec : {M : Type 1} → statement M
+judged-spec = tie.close (tie.spec (λ c. rw (c .if1 .taken)) (λ c. rw (c .if1 .left)))

@@ -1,0 +1,30 @@
+// What the programs that answer standard input row by row or page by page say where it ends, and whether they go on.
+// Safety alone: what they promise stands in what they write.
+use libc::STDERR_FILENO;
+use stdio::Stop;
+
+// Says how many rows were answered, and how many bytes are left after them.
+pub fn say_end(what: &[u8], done: u64, left: u64) {
+    stdio::say(what);
+    io::print_decimal(STDERR_FILENO, done);
+    stdio::say(b" left ");
+    io::print_decimal(STDERR_FILENO, left);
+    stdio::say(b"\n");
+}
+
+// Whether there may be more after a reading. Bytes that are left after the last whole row are said, and so is a reading that failed.
+pub fn go_on(what: &[u8], stop: Stop, done: u64, left: u64) -> bool {
+    match stop {
+        Stop::Full => true,
+        Stop::Ended => {
+            if left > 0 {
+                say_end(what, done, left);
+            }
+            false
+        }
+        Stop::Failed => {
+            say_end(what, done, left);
+            false
+        }
+    }
+}

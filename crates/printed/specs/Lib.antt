@@ -1,0 +1,3 @@
+pub mod Volumes
+pub mod Backward
+pub mod Table30

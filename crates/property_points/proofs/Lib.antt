@@ -1,0 +1,3 @@
+pub mod Table33
+pub mod Numbers
+pub mod Record

@@ -1,0 +1,15 @@
+-- `secant::arrive` meets its contract: what is missing there is a number, or lost. Assumes nothing.
+use mathlib.Core.Path.{sym, _∙_}
+use borrow.Author.Needs.{needs}
+use Rattle.common.proofs.Laws.{check-kept, check-lost}
+use Rattle.secant.proofs.arrive.Statement.{statement}
+use Rattle.secant.proofs.arrive.Tie as tie
+
+returns : tie.Need-returns
+returns c = let m = c .before .before .missing in rw (m .ensures .is, check-kept (m .result) (sym (c .before .is-finite .ensures) ∙ c .if1 .taken))
+
+returns-2 : tie.Need-returns-2
+returns-2 c = let m = c .before .before .missing in rw (m .ensures .is, check-lost (m .result) (sym (c .before .is-finite .ensures) ∙ c .if1 .left))
+
+pub arrive-spec : {M : Type 1} → statement M
+arrive-spec = tie.close (tie.spec (λ c κs. search needs) (λ c κs. search needs) returns returns-2)
