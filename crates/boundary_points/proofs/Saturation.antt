@@ -7,10 +7,10 @@ use lib.Ieee.{round, neg, add, sub, sum, mul, div}
 use Rattle.common.specs.Decimal.{scaled, decimal, whole, plus, minus}
 use Rattle.common.specs.Sum.{every}
 use Rattle.common.proofs.Printed.{Value, prints, agrees}
-use Rattle.rules.specs.Units.{inUnits}
+use Rattle.inverses.specs.Units.{inUnits}
 use Rattle.rules.specs.Power.{powerRule}
-use Rattle.rules.specs.Root.{rootRule, nearestRoot, wholeRoot}
+use Rattle.inverses.specs.Root.{rootRule, nearestRoot, wholeRoot}
 use Rattle.r4.specs.Saturation.{p-saturation, T-saturation}
 
 pub values : List Value
 values =

@@ -6,7 +6,7 @@ use mathlib.Core.List.{List, [], _∷_}
 use lib.Ieee.{Float}
 use Rattle.common.specs.Decimal.{plus, minus, scaled}
 use Rattle.common.proofs.Pin.{mix, shifted, mixFloat, pinFrom}
-use Rattle.boundaries.specs.Boundary.{Term, term, Argument, inP, inLn, Row, row, table}
+use Rattle.printed_lines.specs.Boundaries.{Term, term, Argument, inP, inLn, Row, row, table}
 
 abbrev mixTerm : ℕ → Term → ℕ
 mixTerm h (term i n) = mixFloat (mix h (shifted i)) n

@@ -5,10 +5,10 @@ use mathlib.Core.List.{List, [], _∷_}
 use lib.Ieee.{round, neg, add, sub, sum, mul, div, le}
 use Rattle.common.specs.Decimal.{scaled, decimal, whole, plus, minus}
 use Rattle.common.specs.Sum.{every}
-use Rattle.rules.specs.Units.{inUnits}
-use Rattle.rules.specs.Root.{rootRule, nearestRoot, wholeRoot}
+use Rattle.inverses.specs.Units.{inUnits}
+use Rattle.inverses.specs.Root.{rootRule, nearestRoot, wholeRoot}
 use Rattle.common.proofs.Printed.{Value, prints, agrees}
-use Rattle.border.specs.Border.{B23-T2p, B23-p2T, B23-T2pRule, B23-p2TRule}
+use Rattle.printed_lines.specs.Border.{B23-T2p, B23-p2T, B23-T2pRule, B23-p2TRule}
 
 pub values : List Value
 values =

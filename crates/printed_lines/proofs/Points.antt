@@ -5,9 +5,9 @@ use Prim.Native.Nat.{ℕ}
 use lib.Ieee.{Float, nan, binary64, ofBits, round, neg, add, sub, sum, mul, div, le, lt, eq}
 use Rattle.common.specs.Outcome.{value, numberIn}
 use Rattle.common.specs.Decimal.{scaled, decimal, whole, plus, minus}
-use Rattle.rules.specs.Units.{inUnits}
-use Rattle.rules.specs.Root.{rootRule, nearestRoot, wholeRoot}
-use Rattle.border.specs.Border.{B23-p2T, B23-p2TRule, besideBorder, region3Box}
+use Rattle.inverses.specs.Units.{inUnits}
+use Rattle.inverses.specs.Root.{rootRule, nearestRoot, wholeRoot}
+use Rattle.printed_lines.specs.Border.{B23-p2T, B23-p2TRule, besideBorder, region3Box}
 
 abbrev bits : ℕ → Float
 bits = ofBits binary64

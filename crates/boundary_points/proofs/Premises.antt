@@ -12,14 +12,14 @@ use Rattle.common.specs.Decimal.{decimal, whole, scaled, plus}
 use Rattle.common.specs.Constant.{T-FROM, T-TO}
 use Rattle.common.specs.Sum.{every}
 use Rattle.common.proofs.Sums.{both-left, both-right}
-use Rattle.rules.specs.Units.{inUnits}
-use Rattle.rules.specs.Root.{rootRule, nearestRoot, wholeRoot}
+use Rattle.inverses.specs.Units.{inUnits}
+use Rattle.inverses.specs.Root.{rootRule, nearestRoot, wholeRoot}
 use Rattle.border.specs.Border.{B23-p2T, B23-p2TRule}
 use Rattle.rounding.specs.Fraction.{side, scaledBy, sumOver}
 use Rattle.subregion.specs.declared.Letter.{Letter}
 use Rattle.subregion.specs.declared.Letter.the-variants.{C, G, H, I, J, K, L}
 use Rattle.distance.specs.Exact.{Polynomial, temperature}
 use Rattle.distance.specs.Letter.{tolerance, kelvin, exactLetter, All, five, Inside, Clear, Off}
 
 pub record Point : Type 0 where
   pub p : Float
