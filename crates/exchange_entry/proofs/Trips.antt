@@ -5,19 +5,20 @@ use mathlib.Core.Path.{_≡_, refl, sym, ap, _∙_}
 use mathlib.Core.Bool.{Bool, true, false, cond, not, _&&_}
 use mathlib.Core.List.{List, [], _∷_, _++_}
 use Prim.Native.Nat.{ℕ, suc, _+_, _*_, _/_, _%_, _^_, _≤_, _<_}
-use native.Mathlib.Nat.{zero-add, mod-lt, div-eq-of-lt, div-add-mod', div-div-eq-div-mul}
+use native.Mathlib.Nat.{zero-add, mul-assoc, pow-succ', mod-lt, div-eq-of-lt, div-add-mod', div-div-eq-div-mul}
 use native.Mathlib.Omega.{arith}
-use lib.Dec.{T, lit<, eqb}
+use lib.Dec.{T, lit<, eqb, ltb}
 use lib.IntN.{ℤ}
 use lib.ListN.{length, take, drop}
-use lib.Seq.{sets-eq, take-at}
+use lib.Seq.{sets, sets-eq, take-at}
 use lib.Ieee.{Float, nan, inf, fin, binary64, fits, isNan, toBits, ofBits}
 use lib.Ieee.Bits.{toBits-lt, toBits-ofBits}
-use borrow.Author.Tests.{le-ltb, eqb-true}
+use borrow.Author.Tests.{le-ltb, ltb-false, eqb-true}
 use Rattle.common.specs.Outcome.{Outcome, value, refused}
 use Rattle.record.specs.declared.Record.{Record}
 use Rattle.record.specs.Record.{report}
-use Rattle.volume.specs.Volumes.{originRule, foundRule}
+use Rattle.origin.specs.Origin.{originRule}
+use Rattle.volume_at.specs.Volumes.{foundRule}
 use Rattle.backward.specs.Backward.{hs2p-reg3Rule}
 use Rattle.td_record.specs.Steps.{recordRule}
 use Rattle.region3.specs.Entries.{pTRule, phRule, psRule, hsRule}
@@ -27,12 +28,14 @@ use Rattle.exchange_record.specs.declared.Asked.{Asked}
 use Rattle.exchange_record.specs.Grammar.{Field, Whole, AllWhole, spelt, encoded, word, wordFrom, known, Tagged, tagged, pairs, pairIn, pairOf, Accepted}
 use Rattle.exchange_record.specs.Reading.{Means}
 use Rattle.exchange_record.proofs.Exchange.{one-outcome}
-use Rattle.exchange_entry.specs.declared.Point.{Point}
-use Rattle.exchange_entry.specs.declared.Point.the-variants as at
-use Rattle.exchange_entry.specs.Call.{pointAt, pointOf, entryRule}
-use Rattle.exchange_writer.specs.Written.{high, numberField, twoFields, recordOf, roomRule, after, judgedIn, writeRule, askedFor}
+use Rattle.exchange_writer.specs.declared.Point.{Point}
+use Rattle.exchange_writer.specs.declared.Point.the-variants as at
+use Rattle.exchange_writer.specs.Point.{pointAt, pointOf}
+use Rattle.exchange_writer.specs.Written.{high, numberField, twoFields, recordOf, roomRule, after, askedFor}
+use Rattle.exchange_writer.proofs.Laws.{record-length}
+use Rattle.exchange_entry.specs.Call.{entryRule}
+use Rattle.exchange_entry.specs.Write.{writeRule}
 use Rattle.common.proofs.Calls.{no-value}
-use Rattle.exchange_writer.proofs.Laws.{record-length, has-room, left, left-after}
 
 -- ---- a number and its bytes, the high byte first
 
@@ -98,30 +101,19 @@ byte n = mod-lt n (lit< tt)
 high-bytes : (n : ℕ) → AllBytes (high n)
 high-bytes n = (byte _, (byte _, (byte _, (byte _, (byte _, (byte _, (byte _, (byte _, tt))))))))
 
-not-eight : {A : Type 0} (n : ℕ) → (n ≡ 8 → ⊥) → n ≡ 8 → A
-not-eight n f e = absurd (f e)
+-- n bytes after a number below m are a number below m * 256 ^ n
+word-below : (xs : List ℕ) (a m : ℕ) → a < m → AllBytes xs → wordFrom a xs < m * 256 ^ length xs
+word-below [] a m l h = omega arith
+word-below (x ∷ xs) a m l h =
+    let hx = h .0 in
+    let r = word-below xs (256 * a + x) (m * 256) (omega arith) (h .1) in
+    rw (pow-succ', ← mul-assoc) r
 
 -- eight bytes are those of their number, which has 64 bits
 eight-bytes : (xs : List ℕ) → length xs ≡ 8 → AllBytes xs → (high (word xs) ≡ xs) × (word xs < 2 ^ 64)
-eight-bytes [] l h = not-eight 0 (λ z. omega arith) l
-eight-bytes (a ∷ []) l h = not-eight 1 (λ z. omega arith) l
-eight-bytes (a ∷ b ∷ []) l h = not-eight 2 (λ z. omega arith) l
-eight-bytes (a ∷ b ∷ c ∷ []) l h = not-eight 3 (λ z. omega arith) l
-eight-bytes (a ∷ b ∷ c ∷ d ∷ []) l h = not-eight 4 (λ z. omega arith) l
-eight-bytes (a ∷ b ∷ c ∷ d ∷ e ∷ []) l h = not-eight 5 (λ z. omega arith) l
-eight-bytes (a ∷ b ∷ c ∷ d ∷ e ∷ f ∷ []) l h = not-eight 6 (λ z. omega arith) l
-eight-bytes (a ∷ b ∷ c ∷ d ∷ e ∷ f ∷ g ∷ []) l h = not-eight 7 (λ z. omega arith) l
-eight-bytes (a ∷ b ∷ c ∷ d ∷ e ∷ f ∷ g ∷ i ∷ []) l h =
-    let xs : List ℕ = a ∷ b ∷ c ∷ d ∷ e ∷ f ∷ g ∷ i ∷ [] in
-    let small : word xs < 2 ^ 64 = fits a b c d e f g i h in
-    (same-word (high (word xs)) xs 0 0 refl (high-bytes (word xs)) h (word-high (word xs) small) .1, small)
-  where
-    fits : (a b c d e f g i : ℕ) → AllBytes (a ∷ b ∷ c ∷ d ∷ e ∷ f ∷ g ∷ i ∷ []) → word (a ∷ b ∷ c ∷ d ∷ e ∷ f ∷ g ∷ i ∷ []) < 2 ^ 64
-    fits a b c d e f g i h = omega (arith, h .0, h .1 .0, h .1 .1 .0, h .1 .1 .1 .0, h .1 .1 .1 .1 .0, h .1 .1 .1 .1 .1 .0, h .1 .1 .1 .1 .1 .1 .0, h .1 .1 .1 .1 .1 .1 .1 .0)
-eight-bytes (a ∷ b ∷ c ∷ d ∷ e ∷ f ∷ g ∷ i ∷ j ∷ xs) l h = absurd (long (length xs) l)
-  where
-    long : (n : ℕ) → suc (suc (suc (suc (suc (suc (suc (suc (suc n)))))))) ≡ 8 → ⊥
-    long n z = omega arith
+eight-bytes xs l h =
+    let small : word xs < 2 ^ 64 = rw l at (word-below xs 0 1 (lit< tt) h) in
+    (same-word (high (word xs)) xs 0 0 (sym l) (high-bytes (word xs)) h (word-high (word xs) small) .1, small)
 
 -- ---- written, then read
 
@@ -167,18 +159,20 @@ written-read (at.HS e s) h = two-read 4 5 (e .0) (s .0) pair.HS (h .0) (h .1) re
 
 -- what an accepted call of the writer leaves at the front is that record
 pub front-written : (x : Point) (found out : List ℕ) → writeRule x found ≡ (value tt, out) → take 22 out ≡ recordOf x
-front-written x found out e = go (judgedIn (length found) verdict) refl (sym (left-after verdict x found) ∙ e)
+front-written x found out e = go (report (entryRule x) .0) e
   where
-    verdict : Outcome Unit
-    verdict = report (entryRule x) .0
-
-    go : (o : Outcome Unit) → judgedIn (length found) verdict ≡ o → left o x found ≡ (value tt, out) → take 22 out ≡ recordOf x
-    go (refused k) r h = absurd (no-value (ap (λ (z : Outcome Unit × List ℕ). z .0) h))
-    go (value u) r h =
-        let l : 22 ≤ length found = has-room (length found) verdict u r in
+    by : (b : Bool) → ltb (length found) 22 ≡ b → _≡_ {A = Outcome Unit × List ℕ} (cond b (refused 16, found) (value tt, sets found 0 (recordOf x))) (value tt, out)
+        → take 22 out ≡ recordOf x
+    by true t h = absurd (no-value (ap (λ (z : Outcome Unit × List ℕ). z .0) h))
+    by false t h =
+        let l : 22 ≤ length found = ltb-false (length found) 22 t in
         let n : length (recordOf x) ≡ 22 = record-length x in
         ap (take 22) (sym (ap (λ (z : Outcome Unit × List ℕ). z .1) h) ∙ sets-eq (recordOf x) found 0 (omega arith))
         ∙ take-at (recordOf x) (drop (0 + length (recordOf x)) found) 22 n
+
+    go : (o : Outcome Unit) → after o x found ≡ (value tt, out) → take 22 out ≡ recordOf x
+    go (refused k) h = absurd (no-value (ap (λ (z : Outcome Unit × List ℕ). z .0) h))
+    go (value u) h = by (ltb (length found) 22) refl h
 
 -- so whatever the reader may answer to it is that pair with those bits
 pub read-back : (x : Point) → AreF64 x → (found out : List ℕ) → writeRule x found ≡ (value tt, out) → (o : Outcome Asked) → Means (take 22 out) o → o ≡ value (askedFor x)
