@@ -1,18 +1,17 @@
--- `entries::call::by_letter` meets its contract: a number that names a letter, or 255. Assumes nothing.
+-- `number_entries::named::by_letter` meets its contract: a number that names a letter, or 255. Assumes nothing.
 use mathlib.Core.Path.{_≡_, sym, ap, _∙_}
 use mir.Syntax.{w32}
 use mir.ValLaws.{toZ-ofZ}
 use borrow.Author.Tests.{lt-ltb, le-ltb}
 use Rattle.subregion.specs.declared.Letter.{Letter}
-use Rattle.volume.specs.Volumes.{pT2v-3subregRule}
+use Rattle.volume_at.specs.Volumes.{pT2v-3subregRule}
 use Rattle.reply.specs.Shape.{numberReply}
-use Rattle.entries.specs.Named.{placeOf}
-use Rattle.entries.specs.Entries.{letterVolumeReply}
+use Rattle.number_entries.specs.Named.{placeOf}
+use Rattle.number_entries.specs.Numbers.{letterVolumeReply}
 use borrow.Author.Needs.{needs}
-use Rattle.entries.proofs.call.by_letter.Statement.{statement}
-use Rattle.entries.proofs.call.by_letter.Tie as tie
+use Rattle.number_entries.proofs.named.by_letter as own
 
-returns : tie.Need-returns
+returns : own.Tie.Need-returns
 unfolding letterVolumeReply
 returns c =
     let s = c .before .before .before in
@@ -20,7 +19,7 @@ returns c =
     let e : k .result ≡ placeOf (s .args .n) = rw (toZ-ofZ w32 (s .args .n) (s .fits .n)) at (k .ensures) in
     rw (sym e, lt-ltb (k .result) 97 (c .before .if1 .taken)) (c .refused .ensures)
 
-returns-2 : tie.Need-returns-2
+returns-2 : own.Tie.Need-returns-2
 unfolding letterVolumeReply
 returns-2 c =
     let s = c .before .before .before .before .before .before in
@@ -29,7 +28,7 @@ returns-2 c =
     rw (sym e, le-ltb (k .result) 97 (c .before .before .before .before .if1 .left), lt-ltb (k .result) 123 (c .before .before .before .if2 .taken))
     (c .number-reply .ensures ∙ ap numberReply (c .before .pT2v-3subreg .ensures ∙ ap (λ (l : Letter). pT2v-3subregRule (s .args .p) (s .args .t) l) (c .before .before .of-byte .ensures)))
 
-returns-3 : tie.Need-returns-3
+returns-3 : own.Tie.Need-returns-3
 unfolding letterVolumeReply
 returns-3 c =
     let s = c .before .before .before .before in
@@ -37,7 +36,7 @@ returns-3 c =
     let e : k .result ≡ placeOf (s .args .n) = rw (toZ-ofZ w32 (s .args .n) (s .fits .n)) at (k .ensures) in
     rw (sym e, le-ltb (k .result) 97 (c .before .before .if1 .left), le-ltb (k .result) 123 (c .before .if2 .left)) (c .refused2 .ensures)
 
-pub by-letter-spec : {M : Type 1} → statement M
+pub by-letter-spec : {M : Type 1} → own.Statement.statement M
 by-letter-spec =
-    tie.close (tie.spec (λ c κs. search needs) (λ c κs. search needs) returns (λ c. search needs) (λ c κs. search needs) (λ c κs. search needs)
+    own.Tie.close (own.Tie.spec (λ c κs. search needs) (λ c κs. search needs) returns (λ c. search needs) (λ c κs. search needs) (λ c κs. search needs)
     (λ c κs. search needs) returns-2 (λ c κs. search needs) returns-3)
