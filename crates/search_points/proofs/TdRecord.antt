@@ -16,9 +16,9 @@ use Rattle.td_record.proofs.RecordSteps.{steps-after}
 use Rattle.secant.specs.declared.Curve.the-variants.{Isochore, Enthalpy, Entropy}
 use Rattle.checks.specs.Checks.{checkPRule, checkHRule, checkSRule}
 use Rattle.common.proofs.Calls.{went-on, no-value}
-use Rattle.place.proofs.Trials.{found-accepted, passed}
+use Rattle.search_points.proofs.Trials.{found-accepted, passed}
 use Rattle.search.specs.Calls.{densityBy, pvBox, ThBox, TsBox, pv2T-reg3Rule, Th2d-reg3Rule, Ts2d-reg3Rule, recordOn, recordFound, Searched, pvRule, ThRule, TsRule}
-use Rattle.search.proofs.Answered.{record-state}
+use Rattle.search_points.proofs.Answered.{record-state}
 
 -- a box that is passed has a finite d
 known : (b c : Bool) (o : Outcome Unit) (u : Unit) → cond b (cond c o (refused 1)) (refused 1) ≡ value u → c ≡ true

@@ -10,8 +10,8 @@ use Rattle.secant.specs.Secant.{Proposal}
 use Rattle.secant.specs.declared.Curve.the-variants.{Isochore, Enthalpy, Entropy}
 use Rattle.common.proofs.Calls.{went-on}
 use Rattle.checks.proofs.Promise.{Within, p-within, h-within, s-within}
-use Rattle.place.proofs.Trials.{found-accepted, passed}
+use Rattle.search_points.proofs.Trials.{found-accepted, passed}
 use Rattle.search.specs.Calls.{densityBy, pvBox, ThBox, TsBox, pv2T-reg3Rule, Th2d-reg3Rule, Ts2d-reg3Rule, recordOn, Searched, pvRule, ThRule, TsRule}
 
 -- ---- T or d: the check at the place that is answered
 
