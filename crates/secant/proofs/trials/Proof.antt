@@ -14,6 +14,9 @@ Inv-loop curve y at₀ count₀ at count = (count ≤ MAX-ITER) × (proposalFrom
 abbrev μ-loop : own.Tie.MeasureT-loop
 μ-loop curve y at₀ count₀ at count = MAX-ITER - count
 
+loop-holds : own.Tie.Need-loop-holds Inv-loop μ-loop
+loop-holds c = (search needs, onward-first _ _ _)
+
 -- while the loop goes on there is one left at least
 one-left : (count : ℕ) → suc count ≤ MAX-ITER → MAX-ITER - count ≡ suc (MAX-ITER - (count + 1))
 one-left count h = omega arith
@@ -48,5 +51,5 @@ returns-3 c =
 
 pub trials-spec : {M : Type 1} → own.Statement.statement M
 trials-spec =
-    own.Tie.close (own.Tie.spec Inv-loop μ-loop (λ c. (search needs, onward-first _ _ _)) (λ c κs. search needs) (λ c. search needs)
-    (λ c. search needs) (λ c. search needs) loop-again (λ c. search needs) returns (λ c. search needs) returns-2 returns-3)
+    own.Tie.close (own.Tie.spec Inv-loop μ-loop loop-holds (λ c κs. search needs) (λ c. search needs) (λ c. search needs) (λ c. search needs) loop-again
+    (λ c. search needs) returns (λ c. search needs) returns-2 returns-3)

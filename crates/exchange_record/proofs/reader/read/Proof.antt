@@ -14,6 +14,9 @@ Inv-loop s c₀ at₀ c at = Reached s c × (at ≡ c .at)
 abbrev μ-loop : own.Tie.MeasureT-loop
 μ-loop s c₀ at₀ c at = length s - at
 
+loop-holds : own.Tie.Need-loop-holds Inv-loop μ-loop
+loop-holds c = (starts _ _ refl refl, refl)
+
 loop-less : own.Tie.Need-loop-less Inv-loop μ-loop
 loop-less c =
     let p = rw (c .before .d .given .1) at (c .before .before .before .step .ensures) in
@@ -32,7 +35,10 @@ returns c =
     let r = c .before .before .before .before .before .loop .inv .0 in
     ⊎-elim (λ h. rw (h .1) (cut-off _ _ r (h .0))) (λ h. stopped-by _ _ r _ h) p
 
+returns-2 : own.Tie.Need-returns-2 Inv-loop μ-loop
+returns-2 c = rw (c .finish .ensures) (ends _ _ (c .before .before .loop .inv .0) (search needs))
+
 pub read-spec : {M : Type 1} → own.Statement.statement M
 read-spec =
-    own.Tie.close (own.Tie.spec Inv-loop μ-loop (λ c. (starts _ _ refl refl, refl)) (λ c κs. search needs) (λ c. search needs) loop-less loop-again
-    (λ c. search needs) returns (λ c κs. search needs) (λ c. rw (c .finish .ensures) (ends _ _ (c .before .before .loop .inv .0) (search needs))))
+    own.Tie.close (own.Tie.spec Inv-loop μ-loop loop-holds (λ c κs. search needs) (λ c. search needs) loop-less loop-again (λ c. search needs) returns
+    (λ c κs. search needs) returns-2)

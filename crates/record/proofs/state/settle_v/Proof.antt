@@ -15,7 +15,11 @@ answered c a e =
     let v = c .before .args .v in
     through v (λ w _. value w) ∙ ap (λ (o : Outcome Float). then o (λ _. value v)) (sym (c .density .ensures) ∙ ap paper e)
 
+returns : own.Tie.Need-returns
+returns c = sym (answered (c .before .before) _ (c .enum-told .given .1))
+
+returns-2 : own.Tie.Need-returns-2
+returns-2 c = sym (answered (c .before .before .before) _ (c .before .k .given .1))
+
 pub settle-v-spec : {M : Type 1} → own.Statement.statement M
-settle-v-spec =
-    own.Tie.close (own.Tie.spec (λ c κs. search needs) (λ c. search needs) (λ c. search needs)
-    (λ c. sym (answered (c .before .before) _ (c .enum-told .given .1))) (λ c. sym (answered (c .before .before .before) _ (c .before .k .given .1))))
+settle-v-spec = own.Tie.close (own.Tie.spec (λ c κs. search needs) (λ c. search needs) (λ c. search needs) returns returns-2)

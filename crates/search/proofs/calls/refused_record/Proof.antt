@@ -5,7 +5,8 @@ use Rattle.search.specs.Calls.{withTrials}
 use Rattle.search.proofs.Laws.{told-refused}
 use Rattle.search.proofs.calls.refused_record as own
 
+returns : own.Tie.Need-returns
+returns c = c .counted .ensures ∙ ap (withTrials 0) (c .before .refuse .ensures) ∙ told-refused _ 0
+
 pub refused-record-spec : {M : Type 1} → own.Statement.statement M
-refused-record-spec =
-    own.Tie.close (own.Tie.spec (λ c κs. search needs) (λ c κs. search needs)
-    (λ c. c .counted .ensures ∙ ap (withTrials 0) (c .before .refuse .ensures) ∙ told-refused _ 0))
+refused-record-spec = own.Tie.close (own.Tie.spec (λ c κs. search needs) (λ c κs. search needs) returns)
