@@ -118,7 +118,7 @@ def wanted():
     first = float(re.search(r"const n1: f64 = ([-+0-9.eE]+);", hfe).group(1))
     out["printed"] = printed + [("table30", pin_rows(rows_of(hfe))), ("n1", pin_numbers([first]))]
     lines = text("r3/region3_v_pT.rs")
-    out["boundaries"] = [("table", pin_boundaries(boundary(lines, b) for b in re.findall(r"const I(3[a-z]{2}):", lines)))]
+    out["printed_lines"] = [("table", pin_boundaries(boundary(lines, b) for b in re.findall(r"const I(3[a-z]{2}):", lines)))]
     out["r4"] = [("table34", pin_numbers(numbers(text("r4/region4_sat_pT.rs"), "n")))]
     return out
 
@@ -140,8 +140,8 @@ use Rattle.printed.specs.Volumes.{VOLUMES}
 use Rattle.printed.specs.Backward.{BACKWARD}
 use Rattle.printed.specs.Table30.{n1, table30}
 """,
-    "boundaries": """use Rattle.common.proofs.Pin.{mix, shifted, mixFloat, pinFrom}
-use Rattle.boundaries.specs.Boundary.{Term, term, Argument, inP, inLn, Row, row, table}
+    "printed_lines": """use Rattle.common.proofs.Pin.{mix, shifted, mixFloat, pinFrom}
+use Rattle.printed_lines.specs.Boundaries.{Term, term, Argument, inP, inLn, Row, row, table}
 
 abbrev mixTerm : ℕ → Term → ℕ
 mixTerm h (term i n) = mixFloat (mix h (shifted i)) n

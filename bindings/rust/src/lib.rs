@@ -35,7 +35,7 @@
 //!
 //! # Linking
 //!
-//! The crate needs `libregion3_c.a`: see its build script, or "Link it" in the repository's README. The archive leaves one symbol to the linker, `memset`,
+//! The crate needs `libregion3_c.a`: see its build script, or "Link it" in the repository's README. The archive leaves two symbols to the linker, `memcpy` and `memset`,
 //! and calls no mathematical function of the C library.
 #![allow(non_snake_case)]
 #![deny(missing_docs)]

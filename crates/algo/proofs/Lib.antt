@@ -2,6 +2,5 @@ pub mod Loops
 pub mod Sums
 pub mod Settled
 pub mod Step
-pub mod Constant
 pub mod Pin
 pub mod Unique

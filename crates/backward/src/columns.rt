@@ -1,15 +1,15 @@
 // The sum of an equation's table.
 use crate::Equation;
-use backward_tables::sum_p3a_hs;
-use backward_tables::sum_p3b_hs;
-use backward_tables::sum_t3a_ph;
-use backward_tables::sum_t3a_ps;
-use backward_tables::sum_t3b_ph;
-use backward_tables::sum_t3b_ps;
-use backward_tables::sum_v3a_ph;
-use backward_tables::sum_v3a_ps;
-use backward_tables::sum_v3b_ph;
-use backward_tables::sum_v3b_ps;
+use tables_ph::sum_t3a_ph;
+use tables_ph::sum_t3b_ph;
+use tables_ph::sum_v3a_ph;
+use tables_ph::sum_v3b_ph;
+use tables_ps_hs::sum_p3a_hs;
+use tables_ps_hs::sum_p3b_hs;
+use tables_ps_hs::sum_t3a_ps;
+use tables_ps_hs::sum_t3b_ps;
+use tables_ps_hs::sum_v3a_ps;
+use tables_ps_hs::sum_v3b_ps;
 ghost use mathlib.Core.Path.{_≡_};
 ghost use Rattle.common.specs.Outcome.{orNan};
 ghost use Rattle.algo.specs.Table.{sumRule, term};

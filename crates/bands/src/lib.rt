@@ -1,5 +1,6 @@
-// The bands by p away from the critical point. Each works its boundaries out, tests once that none is lost, and hands them to its chooser. Between 19
-// and 25 MPa no power of p can be lost: the bands there work the rows in p with no look at the powers. Which p has which band is in crate boundary.
+// The bands by p away from the critical point. Each works its boundaries out, hands them to its chooser, and tests once that none is lost: a number less
+// itself is 0, or a NaN where it is lost (proofs/Lost). Between 19 and 25 MPa no power of p can be lost: the bands there work the rows in p with no look
+// at the powers. Which p has which band is in crate boundary.
 use boundaries::AB;
 use boundaries::CD;
 use boundaries::GH;
@@ -25,33 +26,26 @@ use r4::raw_T_saturation;
 use subregion::Letter;
 use subregion::LetterAnswer;
 ghost use mathlib.Core.Path.{_≡_};
-ghost use Rattle.common.specs.Outcome.{finite};
-ghost use Rattle.common.specs.Sum.{every};
+ghost use mathlib.Core.Bool.{cond};
+ghost use Rattle.common.specs.Outcome.{value, refused, finite};
 ghost use Rattle.subregion.specs.Letter.{paperLetter};
 ghost use Rattle.bands.specs.Bands.{rawAb, rawCdef, rawChijk, rawClmnopjk, rawCsrk, rawCst, rawCt};
 
-pub fn all_finite(ts: &[f64]) -> bool
-    ensures { λ r. ⌜ r ≡ every finite (now (ts .entry)) ⌝ }
+// The letter, or 5 where x is lost.
+pub fn answered(l: Letter, x: f64) -> LetterAnswer
+    ensures { λ r. ⌜ paperLetter r ≡ cond (finite x) (value l) (refused 5) ⌝ }
 {
-    let mut i = 0;
-    while i < ts.len() {
-        if is_finite(ts[i]) {
-            i += 1;
-        } else {
-            return false;
-        }
+    if is_finite(x) {
+        return LetterAnswer::Value(l);
     }
-    true
+    LetterAnswer::Refused(Refusal::Step)
 }
 
 pub fn band_ab(p: MPa, t: Kelvin) -> LetterAnswer
     ensures { λ r. ⌜ paperLetter r ≡ rawAb (p .0) (t .0) ⌝ }
 {
     let tab = tabled(AB, p);
-    if is_finite(tab) {
-        return LetterAnswer::Value(by_ab(Kelvin(tab), t));
-    }
-    LetterAnswer::Refused(Refusal::Step)
+    answered(by_ab(Kelvin(tab), t), tab)
 }
 
 pub fn band_cdef(p: MPa, t: Kelvin) -> LetterAnswer
@@ -60,10 +54,10 @@ pub fn band_cdef(p: MPa, t: Kelvin) -> LetterAnswer
     let tab = tabled(AB, p);
     let tcd = tabled(CD, p);
     let tef = straight(p);
-    if all_finite(&[tab, tcd, tef]) {
-        return LetterAnswer::Value(by_cdef(Kelvin(tcd), Kelvin(tab), Kelvin(tef), t));
-    }
-    LetterAnswer::Refused(Refusal::Step)
+    answered(
+        by_cdef(Kelvin(tcd), Kelvin(tab), Kelvin(tef), t),
+        (tab - tab) + (tcd - tcd) + (tef - tef),
+    )
 }
 
 pub fn band_chijk(second: Letter, p: MPa, t: Kelvin) -> LetterAnswer
@@ -75,8 +69,8 @@ pub fn band_chijk(second: Letter, p: MPa, t: Kelvin) -> LetterAnswer
     let tgh = bare_tabled(GH, x);
     let tij = bare_tabled(IJ, x);
     let tjk = bare_tabled(JK, x);
-    if all_finite(&[tcd, tef, tgh, tij, tjk]) {
-        return LetterAnswer::Value(by_chijk(
+    answered(
+        by_chijk(
             second,
             Kelvin(tcd),
             Kelvin(tgh),
@@ -84,9 +78,9 @@ pub fn band_chijk(second: Letter, p: MPa, t: Kelvin) -> LetterAnswer
             Kelvin(tij),
             Kelvin(tjk),
             t,
-        ));
-    }
-    LetterAnswer::Refused(Refusal::Step)
+        ),
+        (tcd - tcd) + (tef - tef) + (tgh - tgh) + (tij - tij) + (tjk - tjk),
+    )
 }
 
 pub fn band_clmnopjk(p: MPa, t: Kelvin) -> LetterAnswer
@@ -100,8 +94,8 @@ pub fn band_clmnopjk(p: MPa, t: Kelvin) -> LetterAnswer
     let tjk = bare_tabled(JK, x);
     let tmn = bare_tabled(MN, x);
     let top = tabled(OP, p);
-    if all_finite(&[tcd, tef, tgh, tij, tjk, tmn, top]) {
-        return LetterAnswer::Value(by_clmnopjk(
+    answered(
+        by_clmnopjk(
             Kelvin(tcd),
             Kelvin(tgh),
             Kelvin(tmn),
@@ -110,9 +104,15 @@ pub fn band_clmnopjk(p: MPa, t: Kelvin) -> LetterAnswer
             Kelvin(tij),
             Kelvin(tjk),
             t,
-        ));
-    }
-    LetterAnswer::Refused(Refusal::Step)
+        ),
+        (tcd - tcd)
+            + (tef - tef)
+            + (tgh - tgh)
+            + (tij - tij)
+            + (tjk - tjk)
+            + (tmn - tmn)
+            + (top - top),
+    )
 }
 
 pub fn band_csrk(p: MPa, t: Kelvin) -> LetterAnswer
@@ -122,10 +122,10 @@ pub fn band_csrk(p: MPa, t: Kelvin) -> LetterAnswer
     let tcd = bare_tabled(CD, x);
     let tjk = bare_tabled(JK, x);
     let tsat = raw_T_saturation(p);
-    if all_finite(&[tcd, tjk, tsat]) {
-        return LetterAnswer::Value(by_csrk(Kelvin(tcd), Kelvin(tsat), Kelvin(tjk), t));
-    }
-    LetterAnswer::Refused(Refusal::Step)
+    answered(
+        by_csrk(Kelvin(tcd), Kelvin(tsat), Kelvin(tjk), t),
+        (tcd - tcd) + (tjk - tjk) + (tsat - tsat),
+    )
 }
 
 pub fn band_cst(p: MPa, t: Kelvin) -> LetterAnswer
@@ -134,18 +134,15 @@ pub fn band_cst(p: MPa, t: Kelvin) -> LetterAnswer
     let x = p.0;
     let tcd = bare_tabled(CD, x);
     let tsat = raw_T_saturation(p);
-    if all_finite(&[tcd, tsat]) {
-        return LetterAnswer::Value(by_cst(Kelvin(tcd), Kelvin(tsat), t));
-    }
-    LetterAnswer::Refused(Refusal::Step)
+    answered(
+        by_cst(Kelvin(tcd), Kelvin(tsat), t),
+        (tcd - tcd) + (tsat - tsat),
+    )
 }
 
 pub fn band_ct(p: MPa, t: Kelvin) -> LetterAnswer
     ensures { λ r. ⌜ paperLetter r ≡ rawCt (p .0) (t .0) ⌝ }
 {
     let tsat = raw_T_saturation(p);
-    if is_finite(tsat) {
-        return LetterAnswer::Value(by_ct(Kelvin(tsat), t));
-    }
-    LetterAnswer::Refused(Refusal::Step)
+    answered(by_ct(Kelvin(tsat), t), tsat)
 }

@@ -13,12 +13,12 @@ use Rattle.common.specs.Constant.{P-FROM, P-TO, T-FROM, T-TO}
 use Rattle.common.specs.Range.{within, pTBox}
 use Rattle.common.proofs.Calls.{no-value}
 use Rattle.common.proofs.Laws.{check-kept}
-use Rattle.rules.specs.Units as units
-use Rattle.rules.specs.Units.{inUnits}
-use Rattle.rules.specs.Root.{rootRule, nearestRoot}
+use Rattle.inverses.specs.Units as units
+use Rattle.inverses.specs.Units.{inUnits}
+use Rattle.inverses.specs.Root.{rootRule, nearestRoot}
 use Rattle.border.specs.Border.{n3, n4, n5, B23-p2T, besideBorder, region3Box}
-use Rattle.border.proofs.Order.{sub-mono, div-mono, add-mono}
-use Rattle.border.proofs.Roots.{above-zero, root-from, root-upto}
+use Rattle.border.proofs.Order.{Above, above0, seen, sub-mono, div-mono, add-mono}
+use Rattle.border.proofs.Roots.{root-from, root-upto}
 
 -- ---- the parts
 
@@ -42,18 +42,12 @@ rootAt p = nearestRoot (inUnits (squareAt p))
 abbrev pub borderAt : Float → Float
 borderAt p = add binary64 N4 (rootAt p)
 
-pub root-is : (x : Float) → T (units.positive x) → rootRule x ≡ value (nearestRoot (inUnits x))
+pub root-is : {x : Float} → Above x → rootRule x ≡ value (nearestRoot (inUnits x))
 unfolding rootRule
-root-is nan p = absurd p
-root-is (inf s) p = absurd p
-root-is (fin s zero e) p = absurd p
-root-is (fin true (suc m) e) p = absurd p
-root-is (fin false (suc m) e) p = refl
+root-is (above0 m e p) = refl
 
-finite-of : (x : Float) → T (positive x) → finite x ≡ true
-finite-of nan p = absurd p
-finite-of (inf s) p = absurd p
-finite-of (fin s m e) p = refl
+finite-of : {x : Float} → Above x → finite x ≡ true
+finite-of (above0 m e p) = refl
 
 -- ---- a p from 16.529 to 100
 
@@ -114,10 +108,10 @@ module _ (p : Float) (from : T (le P-FROM p)) (to : T (le p P-TO)) where
   unfolding B23-p2T
   never-lost =
       rw (
-        check-kept (sub binary64 p N5) (finite-of (sub binary64 p N5) less-positive),
-        check-kept (squareAt p) (finite-of (squareAt p) square-positive),
-        root-is (squareAt p) (above-zero (squareAt p) square-positive),
-        check-kept (borderAt p) (finite-of (borderAt p) border-positive),
+        check-kept (sub binary64 p N5) (finite-of (seen (sub binary64 p N5) less-positive)),
+        check-kept (squareAt p) (finite-of (seen (squareAt p) square-positive)),
+        root-is (seen (squareAt p) square-positive),
+        check-kept (borderAt p) (finite-of (seen (borderAt p) border-positive)),
       )
 
   pub beside-is : (t : Float) → besideBorder p t ≡ cond (lt (borderAt p) t) (refused 8) (value tt)

@@ -1,7 +1,7 @@
 -- Of f64s above 0: a difference and a quotient grow with their first number, a sum with what is added; and of two numbers one is below the other or not. Assumes nothing.
 use mathlib.Core.Path.{_≡_, refl, sym, _∙_, subst}
-use Prim.Native.Nat.{ℕ, _+_, _-_, _*_, _≤_, _<_, zero-le}
-use native.Mathlib.Nat.{le-trans, le-of-eq, lt-of-le-of-lt, lt-of-not-le, not-le-of-lt, mul-comm, mul-sub, mul-pos, mul-le-mul-right}
+use Prim.Native.Nat.{ℕ, zero, suc, _+_, _-_, _*_, _≤_, _<_, zero-le}
+use native.Mathlib.Nat.{le-trans, le-of-eq, lt-of-le-of-lt, lt-of-not-le, not-le-of-lt, zero-lt-suc, mul-comm, mul-sub, mul-pos, mul-le-mul-right}
 use native.Mathlib.Omega.{arith}
 use mathlib.Core.Bool.{Bool, true, false, _||_, cond}
 use lib.IntN.{ℤ}
@@ -11,6 +11,18 @@ use lib.Ieee.Bits.{is-true}
 use lib.Ieee.Fits.{up-pos}
 use lib.Ieee.Order.{round-mono}
 use lib.Ieee.Positive.{num, den, den-pos, positive, above-of-le, first-pos, le→cross, cross→le, le-trans-positive}
+
+-- ---- a number above 0, taken apart
+
+pub data Above : Float → Type 0 where
+  above0 : (m : ℕ) (e : ℤ) → T (ltb 0 (suc m)) → Above (fin false (suc m) e)
+
+pub seen : (x : Float) → T (positive x) → Above x
+seen nan p = absurd p
+seen (inf s) p = absurd p
+seen (fin true m e) p = absurd p
+seen (fin false zero e) p = absurd p
+seen (fin false (suc m) e) p = above0 m e p
 
 -- ---- the operations, as rounded fractions
 
@@ -26,49 +38,29 @@ opened : (m : ℕ) (e : ℤ) (n : ℕ) (d : ℤ) → sub binary64 (fin false m e
 unfolding sub
 opened m e n d = refl
 
-sub-is : (x y : Float) → T (positive x) → T (positive y) → T (le y x) → sub binary64 x y ≡ round binary64 false (num x * den y - num y * den x) (den x * den y)
-sub-is nan y p q h = absurd p
-sub-is (inf s) y p q h = absurd p
-sub-is (fin true m e) y p q h = absurd p
-sub-is (fin false m e) nan p q h = absurd q
-sub-is (fin false m e) (inf t) p q h = absurd q
-sub-is (fin false m e) (fin true n d) p q h = absurd q
-sub-is (fin false m e) (fin false n d) p q h = opened m e n d ∙ less-first (m * up e * down d) (n * up d * down e) (down e * down d) (le→cross (fin false n d) (fin false m e) q p h)
+sub-is : {x y : Float} → Above x → Above y → T (le y x) → sub binary64 x y ≡ round binary64 false (num x * den y - num y * den x) (den x * den y)
+sub-is (above0 m e p) (above0 n d q) h =
+    opened (suc m) e (suc n) d ∙ less-first (suc m * up e * down d) (suc n * up d * down e) (down e * down d) (le→cross (fin false (suc n) d) (fin false (suc m) e) q p h)
 
-div-is : (x y : Float) → T (positive x) → T (positive y) → div binary64 x y ≡ round binary64 false (num x * den y) (num y * den x)
+div-is : {x y : Float} → Above x → Above y → div binary64 x y ≡ round binary64 false (num x * den y) (num y * den x)
 unfolding div
-div-is nan y p q = absurd p
-div-is (inf s) y p q = absurd p
-div-is (fin true m e) y p q = absurd p
-div-is (fin false m e) nan p q = absurd q
-div-is (fin false m e) (inf t) p q = absurd q
-div-is (fin false m e) (fin true n d) p q = absurd q
-div-is (fin false m e) (fin false n d) p q = go (eqb n 0) (λ h. some n (ltb→lt 0 n q) (eqb→eq n 0 h)) _ _
+div-is (above0 m e p) (above0 n d q) = go (eqb (suc n) 0) (λ h. some n (eqb→eq (suc n) 0 h)) _ _
   where
-    some : (n : ℕ) → 0 < n → n ≡ 0 → ⊥
-    some n h z = omega arith
+    some : (n : ℕ) → suc n ≡ 0 → ⊥
+    some n z = omega arith
 
     go : (b : Bool) → (T b → ⊥) → (x y : Float) → cond b x y ≡ y
     go true h x y = absurd (h tt)
     go false h x y = refl
 
-add-is : (x y : Float) → T (positive x) → T (positive y) → add binary64 x y ≡ round binary64 false (num x * den y + num y * den x) (den x * den y)
-unfolding add
-add-is nan y p q = absurd p
-add-is (inf s) y p q = absurd p
-add-is (fin true m e) y p q = absurd p
-add-is (fin false m e) nan p q = absurd q
-add-is (fin false m e) (inf t) p q = absurd q
-add-is (fin false m e) (fin true n d) p q = absurd q
-add-is (fin false m e) (fin false n d) p q = unfold sum in refl
+add-is : {x y : Float} → Above x → Above y → add binary64 x y ≡ round binary64 false (num x * den y + num y * den x) (den x * den y)
+unfolding add sum
+add-is (above0 m e p) (above0 n d q) = refl
 
 -- ---- the order of the fractions
 
-num-pos : (x : Float) → T (positive x) → 0 < num x
-num-pos nan p = absurd p
-num-pos (inf s) p = absurd p
-num-pos (fin true m e) p = absurd p
-num-pos (fin false m e) p = mul-pos (ltb→lt 0 m p) (up-pos e)
+num-pos : {x : Float} → Above x → 0 < num x
+num-pos (above0 m e p) = mul-pos (zero-lt-suc m) (up-pos e)
 
 grown : (X dx X' dx' Y dy : ℕ) → X * dx' ≤ X' * dx → (X * dy - Y * dx) * (dx' * dy) ≤ (X' * dy - Y * dx') * (dx * dy)
 grown X dx X' dx' Y dy h =
@@ -86,19 +78,19 @@ joined X dx Y dy Y' dy' h = omega (arith, mul-le-mul-right (dx * dx) h)
 
 pub sub-mono : (x x' y : Float) → T (positive x) → T (positive x') → T (positive y) → T (le y x) → T (le x x') → T (le (sub binary64 x y) (sub binary64 x' y))
 sub-mono x x' y p p' q h k =
-    rw (sub-is x y p q h, sub-is x' y p' q (le-trans-positive y x x' q p p' h k))
+    rw (sub-is (seen x p) (seen y q) h, sub-is (seen x' p') (seen y q) (le-trans-positive y x x' q p p' h k))
     (round-mono binary64 (num x * den y - num y * den x) (den x * den y) (num x' * den y - num y * den x') (den x' * den y) (mul-pos (den-pos x) (den-pos y)) (mul-pos (den-pos x') (den-pos y))
     (grown (num x) (den x) (num x') (den x') (num y) (den y) (le→cross x x' p p' k)))
 
 pub div-mono : (x x' y : Float) → T (positive x) → T (positive x') → T (positive y) → T (le x x') → T (le (div binary64 x y) (div binary64 x' y))
 div-mono x x' y p p' q k =
-    rw (div-is x y p q, div-is x' y p' q)
-    (round-mono binary64 (num x * den y) (num y * den x) (num x' * den y) (num y * den x') (mul-pos (num-pos y q) (den-pos x)) (mul-pos (num-pos y q) (den-pos x'))
+    rw (div-is (seen x p) (seen y q), div-is (seen x' p') (seen y q))
+    (round-mono binary64 (num x * den y) (num y * den x) (num x' * den y) (num y * den x') (mul-pos (num-pos (seen y q)) (den-pos x)) (mul-pos (num-pos (seen y q)) (den-pos x'))
     (shared (num x) (den x) (num x') (den x') (num y) (den y) (le→cross x x' p p' k)))
 
 pub add-mono : (x y y' : Float) → T (positive x) → T (positive y) → T (positive y') → T (le y y') → T (le (add binary64 x y) (add binary64 x y'))
 add-mono x y y' p q q' k =
-    rw (add-is x y p q, add-is x y' p q')
+    rw (add-is (seen x p) (seen y q), add-is (seen x p) (seen y' q'))
     (round-mono binary64 (num x * den y + num y * den x) (den x * den y) (num x * den y' + num y' * den x) (den x * den y') (mul-pos (den-pos x) (den-pos y)) (mul-pos (den-pos x) (den-pos y'))
     (joined (num x) (den x) (num y) (den y) (num y') (den y') (le→cross y y' q q' k)))
 
@@ -148,12 +140,9 @@ not-below x y p h = go (lt x y) refl
 
 pub is-below : (x y : Float) → T (positive x) → T (positive y) → (T (le y x) → ⊥) → lt x y ≡ true
 unfolding lt
-is-below nan y p q h = absurd p
-is-below (inf s) y p q h = absurd p
-is-below (fin true m e) y p q h = absurd p
-is-below (fin false m e) nan p q h = absurd q
-is-below (fin false m e) (inf t) p q h = absurd q
-is-below (fin false m e) (fin true n d) p q h = absurd q
-is-below (fin false m e) (fin false n d) p q h =
-    is-true (ltb (m * up e * down d) (n * up d * down e)) (lt→ltb (m * up e * down d) (n * up d * down e)
-    (lt-of-not-le (λ g. h (cross→le (fin false n d) (fin false m e) q p g))))
+is-below x y p q = go (seen x p) (seen y q)
+  where
+    go : {x y : Float} → Above x → Above y → (T (le y x) → ⊥) → lt x y ≡ true
+    go (above0 m e p) (above0 n d q) h =
+        is-true (ltb (suc m * up e * down d) (suc n * up d * down e)) (lt→ltb (suc m * up e * down d) (suc n * up d * down e)
+        (lt-of-not-le (λ g. h (cross→le (fin false (suc n) d) (fin false (suc m) e) q p g))))

@@ -13,11 +13,12 @@ use lib.Ieee.Fits.{and-l, and-r, round-fits, down-pos}
 use lib.Ieee.Exact.{HasValue, round-exact}
 use lib.Ieee.Order.{round-mono, le-of-values}
 use lib.Ieee.Positive.{positive, mul-at}
-use Rattle.rules.specs.Units as units
-use Rattle.rules.specs.Units.{inUnits}
-use Rattle.rules.specs.Root.{nearestRoot, fromZero}
+use Rattle.inverses.specs.Units as units
+use Rattle.inverses.specs.Units.{inUnits}
+use Rattle.inverses.specs.Root.{nearestRoot, fromZero}
 use Rattle.rules.proofs.Fields as fields
-use Rattle.rules.proofs.Meaning.{shape, root-nearest, root-held}
+use Rattle.inverses.proofs.Meaning.{shape, root-nearest, root-held}
+use Rattle.border.proofs.Order.{Above, above0, seen}
 
 -- ---- an f64 that is not below 0 is `inUnits` of it over 2^1074
 
@@ -53,30 +54,19 @@ in-units (fin false (suc m) e) f t =
     let b = leb (down e) (2 ^ 1074) in
     (refl, parted 1074 (suc m) e (leb→le (down e) (2 ^ 1074) (and-r a b (and-l (a && b) (ltb (suc m * up e) (2 ^ 1024 * down e)) f))))
 
-from-zero : (x : Float) → T (positive x) → T (fromZero x)
-from-zero nan p = absurd p
-from-zero (inf s) p = absurd p
-from-zero (fin true m e) p = absurd p
-from-zero (fin false m e) p = tt
+from-zero : {x : Float} → Above x → T (fromZero x)
+from-zero (above0 m e p) = tt
 
-pub above-zero : (x : Float) → T (positive x) → T (units.positive x)
-above-zero nan p = absurd p
-above-zero (inf s) p = absurd p
-above-zero (fin true m e) p = absurd p
-above-zero (fin false zero e) p = absurd p
-above-zero (fin false (suc m) e) p = tt
+above-zero : {x : Float} → Above x → T (units.positive x)
+above-zero (above0 m e p) = tt
 
 -- below 2^1024, so that rounding it does not overflow
 carried : (a h d l : ℕ) → 0 < l → a < h * d → a * l < h * l * d
 carried a h d l p g = lt-of-lt-of-le (mul-lt-mul-of-pos-right g p) (le-of-eq (mul-right-comm h d l))
 
-small : (x : Float) → T (fits binary64 x) → T (positive x) → inUnits x < 2 ^ 2098
+small : {x : Float} → Above x → T (fits binary64 x) → inUnits x < 2 ^ 2098
 unfolding fits inUnits
-small nan f p = absurd p
-small (inf s) f p = absurd p
-small (fin true m e) f p = absurd p
-small (fin false zero e) f p = absurd p
-small (fin false (suc m) e) f p =
+small (above0 m e p) f =
     let a = eqb (suc m % 2) 1 && ltb (suc m) (2 ^ 53) && leb (down e) (2 ^ 1074) in
     let g : suc m * up e < 2 ^ 1024 * down e = ltb→lt (suc m * up e) (2 ^ 1024 * down e) (and-r a (ltb (suc m * up e) (2 ^ 1024 * down e)) f) in
     div-lt-iff-lt-mul (down-pos e) .1 (carried (suc m * up e) (2 ^ 1024) (down e) (2 ^ 1074) (pow-pos 1074) g)
@@ -84,10 +74,10 @@ small (fin false (suc m) e) f p =
 -- rounded, it is itself
 again : (x : Float) → T (fits binary64 x) → T (positive x) → round binary64 false (inUnits x) (2 ^ 1074) ≡ x
 again x f p =
-    let z = shape x f (from-zero x p) in
-    let v = in-units x f (from-zero x p) in
+    let z = shape x f (from-zero (seen x p)) in
+    let v = in-units x f (from-zero (seen x p)) in
     fields.same (round binary64 false (inUnits x) (2 ^ 1074)) x false (inUnits x) (round-fits binary64 false (inUnits x) (2 ^ 1074)) f
-    (round-exact binary64 false (inUnits x) (2 ^ 1074) (z .0) (z .1) (pow-pos 1074) (z .2) (subst (λ (n : ℕ). n < 2 ^ 2098) (z .3) (small x f p)) (ap (λ (n : ℕ). n * 2 ^ 1074) (z .3)))
+    (round-exact binary64 false (inUnits x) (2 ^ 1074) (z .0) (z .1) (pow-pos 1074) (z .2) (subst (λ (n : ℕ). n < 2 ^ 2098) (z .3) (small (seen x p) f)) (ap (λ (n : ℕ). n * 2 ^ 1074) (z .3)))
     v
 
 -- ---- squares of whole numbers
@@ -119,10 +109,10 @@ module _ (q d : Float) (fq : T (fits binary64 q)) (pq : T (positive q)) (fd : T 
   r = nearestRoot (inUnits q)
 
   root-units : HasValue r false (inUnits r) (2 ^ 1074)
-  root-units = let h = root-held q fq (above-zero q pq) in in-units r (h .0) (h .1)
+  root-units = let h = root-held q fq (above-zero (seen q pq)) in in-units r (h .0) (h .1)
 
   d-units : HasValue d false (inUnits d) (2 ^ 1074)
-  d-units = in-units d fd (from-zero d pd)
+  d-units = in-units d fd (from-zero (seen d pd))
 
   squared : mul binary64 d d ≡ round binary64 false (inUnits d * inUnits d) (2 ^ 1074 * 2 ^ 1074)
   squared = mul-at binary64 d d (inUnits d) (2 ^ 1074) (inUnits d) (2 ^ 1074) pd pd (pow-pos 1074) (pow-pos 1074) d-units d-units
@@ -134,7 +124,7 @@ module _ (q d : Float) (fq : T (fits binary64 q)) (pq : T (positive q)) (fd : T 
     where
       beside : inUnits r < inUnits d → T (le q (mul binary64 d d))
       beside g =
-          let n = root-nearest q fq (above-zero q pq) d fd (from-zero d pd) .0 g in
+          let n = root-nearest q fq (above-zero (seen q pq)) d fd (from-zero (seen d pd)) .0 g in
           let h = below-square (inUnits q * 2 ^ 1074) (inUnits r) (inUnits d) g n in
           subst (λ (z : Float). T (le z (mul binary64 d d))) (again q fq pq)
           (subst (λ (z : Float). T (le (round binary64 false (inUnits q) (2 ^ 1074)) z)) (sym squared)
@@ -147,7 +137,7 @@ module _ (q d : Float) (fq : T (fits binary64 q)) (pq : T (positive q)) (fd : T 
     where
       beside : inUnits d < inUnits r → T (le (mul binary64 d d) q)
       beside g =
-          let n = root-nearest q fq (above-zero q pq) d fd (from-zero d pd) .1 g in
+          let n = root-nearest q fq (above-zero (seen q pq)) d fd (from-zero (seen d pd)) .1 g in
           let h = above-square (inUnits q * 2 ^ 1074) (inUnits r) (inUnits d) g n in
           subst (λ (z : Float). T (le (mul binary64 d d) z)) (again q fq pq)
           (subst (λ (z : Float). T (le z (round binary64 false (inUnits q) (2 ^ 1074)))) (sym squared)

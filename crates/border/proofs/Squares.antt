@@ -10,10 +10,10 @@ use Rattle.common.specs.Outcome.{Outcome, value, refused, orNan}
 use Rattle.common.specs.Decimal.{decimal, scaled, plus}
 use Rattle.common.specs.Constant.{T-FROM, T-TO}
 use Rattle.common.specs.Range.{pTBox}
-use Rattle.rules.specs.Root.{rootRule}
+use Rattle.inverses.specs.Root.{rootRule}
 use Rattle.border.specs.Border.{besideBorder}
-use Rattle.border.proofs.Order.{sub-mono, add-mono, at-most, not-both, not-both-above, not-below, is-below}
-use Rattle.border.proofs.Roots.{above-zero, root-from, root-upto}
+use Rattle.border.proofs.Order.{seen, sub-mono, add-mono, at-most, not-both, not-both-above, not-below, is-below}
+use Rattle.border.proofs.Roots.{root-from, root-upto}
 use Rattle.border.proofs.Never.{N4, squareAt, rootAt, borderAt, root-is, square-positive, root-positive, border-positive, beside-is, InBox, in-box}
 
 abbrev margin : Float
@@ -100,7 +100,7 @@ module _ (p t : Float) (box : pTBox p t ≡ value tt) where
 
   -- by the root itself
   pub by-root : cond (not (lt (add binary64 N4 (orNan (rootRule (squareAt p)))) t)) (value tt) (refused 8) ≡ besideBorder p t
-  by-root = rw (root-is (squareAt p) (above-zero (squareAt p) q-positive)) (turned (lt (borderAt p) t) ∙ told (lt (borderAt p) t) refl)
+  by-root = rw (root-is (seen (squareAt p) q-positive)) (turned (lt (borderAt p) t) ∙ told (lt (borderAt p) t) refl)
     where
       turned : (x : Bool) → _≡_ {A = Outcome Unit} (cond (not x) (value tt) (refused 8)) (cond x (refused 8) (value tt))
       turned true = refl

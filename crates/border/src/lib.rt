@@ -13,7 +13,7 @@ use common::check_only;
 use common::check_pT;
 use common::is_finite;
 use common::settle;
-use rules::raw_root;
+use inverses::raw_root;
 ghost use mathlib.Core.Path.{_≡_};
 ghost use mathlib.Core.Bool.{cond, not};
 ghost use lib.Ieee.{binary64, add, lt};
@@ -21,7 +21,7 @@ ghost use Rattle.common.specs.Outcome.{value, refused, orNan};
 ghost use Rattle.common.specs.Formula.{Raw};
 ghost use Rattle.common.specs.Answer.{paper, paperVerdict};
 ghost use Rattle.common.specs.Range.{pTBox};
-ghost use Rattle.rules.specs.Root.{rootRule};
+ghost use Rattle.inverses.specs.Root.{rootRule};
 ghost use Rattle.border.specs.Border.{n4, B23-T2p, B23-T2pRule, B23-p2T, B23-p2TRule, besideBorder, region3Box};
 
 // R7-97, table 1

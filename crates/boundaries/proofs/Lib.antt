@@ -1,3 +1,2 @@
 pub mod TableSums
 pub mod Unique
-pub mod Pins

@@ -18,7 +18,7 @@ use Rattle.common.proofs.Formulas.{raw-value, raw-add, raw-mul, raw-sub-from}
 use Rattle.common.proofs.Sums.{total-check, both-left, both-right, T-true}
 use Rattle.rules.specs.Power.{powerRule}
 use Rattle.rules.specs.RawPower.{rawPower, lookedPower}
-use Rattle.rules.specs.Log.{logarithmRule}
+use Rattle.inverses.specs.Log.{logarithmRule}
 use Rattle.rules.proofs.Powers.{power-looked}
 use Rattle.rules.proofs.Usual.{usual-raw}
 use Rattle.sizes.specs.Usual.{usualBase}

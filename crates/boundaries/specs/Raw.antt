@@ -12,9 +12,11 @@ use Rattle.common.specs.Decimal.{decimal}
 use Rattle.common.specs.Sum.{rawTotal}
 use Rattle.rules.specs.Power.{powerRule}
 use Rattle.rules.specs.RawPower.{rawPower}
-use Rattle.rules.specs.Log.{logarithmRule}
+use Rattle.inverses.specs.Log.{logarithmRule}
 use Rattle.boundaries.specs.Boundary as paper
 use Rattle.boundaries.specs.Boundary.{Term, term, Argument, inP, inLn, row, rowAt}
+use Rattle.boundaries.specs.declared.Boundary.{Boundary}
+use Rattle.boundaries.specs.declared.Boundary.the-variants.{Ab, Cd, Ef, Gh, Ij, Jk, Mn, Op, Qu, Rx, Uv, Wx}
 use Rattle.boundaries.specs.declared.table.Row.{Row}
 
 -- ---- a row of the code
@@ -29,6 +31,21 @@ fifthOf k t = cond (eqb k 4) [] (t ∷ [])
 
 abbrev pub printed : Row → paper.Row
 printed r = row (argumentOf (r .ln)) (term (r .i1) (r .n1) ∷ term (r .i2) (r .n2) ∷ term (r .i3) (r .n3) ∷ term (r .i4) (r .n4) ∷ fifthOf (r .count) (term (r .i5) (r .n5)))
+
+-- the place of a boundary's row, and 11 for 3ef
+abbrev pub placeOf : Boundary → ℕ
+placeOf Ab = 0
+placeOf Cd = 1
+placeOf Ef = 11
+placeOf Gh = 2
+placeOf Ij = 3
+placeOf Jk = 4
+placeOf Mn = 5
+placeOf Op = 6
+placeOf Qu = 7
+placeOf Rx = 8
+placeOf Uv = 9
+placeOf Wx = 10
 
 -- ---- the walk: a lost number is the result
 

@@ -10,15 +10,15 @@ use common::P_TO;
 use common::Verdict;
 use common::check_only;
 use common::settle;
+use inverses::raw_logarithm;
 use rules::bare_power;
-use rules::raw_logarithm;
 use rules::raw_power;
 use sizes::usual;
 ghost use mathlib.Core.Path.{_≡_};
 ghost use Rattle.common.specs.Outcome.{check};
 ghost use Rattle.common.specs.Answer.{paper};
 ghost use Rattle.boundaries.specs.Boundary.{term, rowAt, boundaryOf, boundaryRule};
-ghost use Rattle.boundaries.specs.Raw.{argumentOf, printed, rawArgument, rawTerm, rawSum, rawTabled, rawStraight, bareTerm, bareSum};
+ghost use Rattle.boundaries.specs.Raw.{argumentOf, placeOf, printed, rawArgument, rawTerm, rawSum, rawTabled, rawStraight, bareTerm, bareSum};
 
 // What a row's sum is in.
 fn argument(ln: bool, p: f64) -> f64
@@ -105,24 +105,32 @@ pub fn straight(p: MPa) -> f64
     3.727888004 * (p.0 - 22.064) + 647.096
 }
 
+// The place of the boundary's row; one beyond the last for 3ef.
+fn place(b: Boundary) -> usize
+    ensures { λ r. ⌜ r ≡ placeOf b ⌝ }
+{
+    match b {
+        Boundary::Ab => table::AB,
+        Boundary::Cd => table::CD,
+        Boundary::Ef => 11,
+        Boundary::Gh => table::GH,
+        Boundary::Ij => table::IJ,
+        Boundary::Jk => table::JK,
+        Boundary::Mn => table::MN,
+        Boundary::Op => table::OP,
+        Boundary::Qu => table::QU,
+        Boundary::Rx => table::RX,
+        Boundary::Uv => table::UV,
+        Boundary::Wx => table::WX,
+    }
+}
+
 // The temperature by the boundary's name.
 fn raw_boundary(b: Boundary, p: MPa) -> f64
     ensures { λ r. ⌜ check r ≡ boundaryOf b (p .0) ⌝ }
 {
-    match b {
-        Boundary::Ab => tabled(table::AB, p),
-        Boundary::Cd => tabled(table::CD, p),
-        Boundary::Ef => straight(p),
-        Boundary::Gh => tabled(table::GH, p),
-        Boundary::Ij => tabled(table::IJ, p),
-        Boundary::Jk => tabled(table::JK, p),
-        Boundary::Mn => tabled(table::MN, p),
-        Boundary::Op => tabled(table::OP, p),
-        Boundary::Qu => tabled(table::QU, p),
-        Boundary::Rx => tabled(table::RX, p),
-        Boundary::Uv => tabled(table::UV, p),
-        Boundary::Wx => tabled(table::WX, p),
-    }
+    let k = place(b);
+    if k == 11 { straight(p) } else { tabled(k, p) }
 }
 
 // The temperature at the boundary in K.

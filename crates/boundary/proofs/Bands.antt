@@ -1,37 +1,41 @@
 -- The rule of each band, every boundary checked as it is worked, is its boundaries worked raw and tested together. Assumes nothing.
 use Prim.Native.Nat.{ℕ}
-use mathlib.Core.Path.{_≡_, refl}
-use mathlib.Core.Bool.{Bool, _&&_, cond}
+use mathlib.Core.Path.{_≡_, refl, ap}
+use mathlib.Core.Bool.{Bool, true, false, _&&_, cond}
 use lib.Dec.{T}
-use lib.Ieee.{Float}
-use Rattle.common.specs.Outcome.{Outcome, refused, finite, check, then}
+use lib.Ieee.{Float, lt}
+use Rattle.common.specs.Outcome.{Outcome, value, refused, finite, check, then}
+use Rattle.common.specs.Decimal.{decimal}
 use Rattle.common.specs.Sum.{every}
 use Rattle.subregion.specs.declared.Letter.{Letter}
 use Rattle.r4.specs.Saturation.{T-saturation}
 use Rattle.r4.proofs.Raw.{T-checked}
+use Rattle.choosers.specs.Choosers.{around}
 use Rattle.choosers.proofs.Tests.{gate}
-use Rattle.boundaries.specs.Boundary.{walkRule, rowAt, straight3ef}
+use Rattle.boundaries.specs.Boundary.{walkRule, rowAt, straight3ef, boundaryOf}
+use Rattle.boundaries.specs.declared.Boundary.the-variants.{Ef, Uv, Wx}
 use Rattle.boundaries.specs.Raw.{rawTabled, rawStraight, Bare}
 use Rattle.boundaries.proofs.TableSums.{inPAt, in-p, by-row, by-line}
 use Rattle.bands.specs.Bands.{bareAt, saturated, rawAb, rawCdef, rawChijk, rawClmnopjk, rawCsrk, rawCst, rawCt}
-use Rattle.boundary.specs.Choice.{abRule, cdefRule, chijkRule, clmnopjkRule, csrkRule, cstRule, ctRule}
+use Rattle.boundary.specs.Choice.{abRule, cdefRule, chijkRule, clmnopjkRule, nearRule, cq-rkRule, csrkRule, cstRule, ctRule}
+use Rattle.boundary.specs.Raw.{rawNear, rawCq-rk}
 
 -- One boundary, whose number x checked is what it comes to: what follows it is r if the test b passes and else refused with 5, and so is the whole, if
 -- b and the number's own test pass.
-pub next : {A : Type 0} {o : Outcome Float} (x : Float) (f : Float → Outcome A) (b : Bool) (r : Outcome A) → check x ≡ o → f x ≡ cond b r (refused 5) → then o f ≡ cond (finite x && b) r (refused 5)
+next : {A : Type 0} {o : Outcome Float} (x : Float) (f : Float → Outcome A) (b : Bool) (r : Outcome A) → check x ≡ o → f x ≡ cond b r (refused 5) → then o f ≡ cond (finite x && b) r (refused 5)
 next x f b r e h = rw (← e) (gate x f b r h)
 
 -- the boundaries: a row in p at a p whose powers keep, any row, 3ef, the saturation line
-pub bare : (k : ℕ) (p : Float) → Bare p → T (inPAt k) → check (bareAt k p) ≡ walkRule (rowAt k) p
+bare : (k : ℕ) (p : Float) → Bare p → T (inPAt k) → check (bareAt k p) ≡ walkRule (rowAt k) p
 bare k p b h = in-p k p (bareAt k p) b h refl
 
-pub tabled : (k : ℕ) (p : Float) → check (rawTabled k p) ≡ walkRule (rowAt k) p
+tabled : (k : ℕ) (p : Float) → check (rawTabled k p) ≡ walkRule (rowAt k) p
 tabled k p = by-row k p (rawTabled k p) refl
 
-pub straight : (p : Float) → check (rawStraight p) ≡ straight3ef p
+straight : (p : Float) → check (rawStraight p) ≡ straight3ef p
 straight p = by-line p (rawStraight p) refl
 
-pub at-saturation : (p : Float) → check (saturated p) ≡ T-saturation p
+at-saturation : (p : Float) → check (saturated p) ≡ T-saturation p
 at-saturation p = T-checked p refl
 
 module _ (p t : Float) where
@@ -63,6 +67,30 @@ module _ (p t : Float) (b : Bare p) where
       (next (bareAt 2 p) _ _ _ (bare 2 p b tt)
       (next (bareAt 3 p) _ _ _ (bare 3 p b tt)
       (next (bareAt 4 p) _ _ _ (bare 4 p b tt) (next (bareAt 5 p) _ _ _ (bare 5 p b tt) (next (rawTabled 6 p) _ _ _ (tabled 6 p) refl))))))
+
+  -- 3uv, 3wx and 3ef, and what follows them
+  near-three : (f : Float → Float → Float → Outcome Letter) (d : Bool) (r : Outcome Letter) →
+      f (bareAt 9 p) (rawTabled 10 p) (rawStraight p) ≡ cond d r (refused 5) →
+      then (boundaryOf Uv p) (λ tuv. then (boundaryOf Wx p) (λ twx. then (boundaryOf Ef p) (λ tef. f tuv twx tef)))
+      ≡ cond (finite (bareAt 9 p) && (finite (rawTabled 10 p) && (finite (rawStraight p) && d))) r (refused 5)
+  near-three f d r h = next (bareAt 9 p) _ _ _ (bare 9 p b tt) (next (rawTabled 10 p) _ _ _ (tabled 10 p) (next (rawStraight p) _ _ _ (straight p) h))
+
+  pub near-raw : nearRule p t ≡ rawNear p t
+  unfolding nearRule every
+  near-raw = by-p (lt (decimal 22_11 2) p) (lt (decimal 22_064 3) p) refl refl
+    where
+      by-p : (x y : Bool) → lt (decimal 22_11 2) p ≡ x → lt (decimal 22_064 3) p ≡ y → nearRule p t ≡ rawNear p t
+      by-p true y e d = rw e (near-three _ true _ refl)
+      by-p false true e d = rw (e, d) (near-three _ true _ refl)
+      by-p false false e d = rw (e, d) (near-three _ (finite (saturated p) && true) _ (next (saturated p) _ _ _ (at-saturation p) refl))
+
+  pub cq-rk-raw : cq-rkRule p t ≡ rawCq-rk p t
+  unfolding cq-rkRule every
+  cq-rk-raw =
+      next (bareAt 1 p) _ _ _ (bare 1 p b tt)
+      (next (bareAt 7 p) _ _ _ (bare 7 p b tt)
+      (next (bareAt 8 p) _ _ _ (bare 8 p b tt)
+      (next (bareAt 4 p) _ _ _ (bare 4 p b tt) (ap (around (bareAt 1 p) (bareAt 7 p) (bareAt 8 p) (bareAt 4 p) t value) near-raw))))
 
   pub csrk-raw : csrkRule p t ≡ rawCsrk p t
   unfolding csrkRule every

@@ -3,9 +3,9 @@ use mathlib.Core.Path.{_≡_, refl}
 use lib.Ieee.{binary64, ofBits, round, neg, add, sub, sum, mul, div}
 use Rattle.common.specs.Outcome.{value}
 use Rattle.common.specs.Decimal.{scaled, decimal, whole, plus, minus}
-use Rattle.rules.specs.Units.{inUnits}
+use Rattle.inverses.specs.Units.{inUnits}
 use Rattle.rules.specs.Power.{powerRule}
-use Rattle.rules.specs.Root.{rootRule, nearestRoot, wholeRoot}
+use Rattle.inverses.specs.Root.{rootRule, nearestRoot, wholeRoot}
 use Rattle.r4.specs.Saturation.{p-saturation}
 use Rattle.boundary.specs.Choice.{limit}
 

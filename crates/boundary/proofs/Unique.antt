@@ -1,13 +1,10 @@
 -- Each contract admits one answer. Assumes nothing.
 use Rattle.common.proofs.Same.{One}
 use Rattle.subregion.proofs.Unique.{same-choice}
-use Rattle.boundary.proofs.choice.letter_at.Kinds as at-kinds
-use Rattle.boundary.proofs.choice.letter_at.Reads as at
-use Rattle.boundary.proofs.choice.sub_region3_pT.Kinds as letter-kinds
-use Rattle.boundary.proofs.choice.sub_region3_pT.Reads as letter
+use Rattle.boundary.proofs as own
 
-pub letter-at-one : One 0 at-kinds.ps at-kinds.r at.Post
+pub letter-at-one : One 0 own.choice.letter_at.Kinds.ps own.choice.letter_at.Kinds.r own.choice.letter_at.Reads.Post
 letter-at-one κs a e x y p q = same-choice _ x y p q
 
-pub sub-region3-pT-one : One 0 letter-kinds.ps letter-kinds.r letter.Post
+pub sub-region3-pT-one : One 0 own.choice.sub_region3_pT.Kinds.ps own.choice.sub_region3_pT.Kinds.r own.choice.sub_region3_pT.Reads.Post
 sub-region3-pT-one κs a e x y p q = same-choice _ x y p q

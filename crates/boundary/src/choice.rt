@@ -1,6 +1,6 @@
-// The letter by p and t: which band p lies in, and the bands round the critical point. Each of these works its boundaries out, tests once that none is
-// lost, and hands them to its chooser; the other bands are in crate bands. Last the call, behind its box and the border with region 2.
-use bands::all_finite;
+// The letter by p and t: which band p lies in, and the bands round the critical point, which work their boundaries out and test once that none is lost as
+// the other bands do (crate bands). Last the call, behind its box and the border with region 2.
+use bands::answered;
 use bands::band_ab;
 use bands::band_cdef;
 use bands::band_chijk;
@@ -37,45 +37,53 @@ ghost use lib.Ieee.{lt};
 ghost use Rattle.common.specs.Decimal.{whole};
 ghost use Rattle.subregion.specs.Letter.{paperLetter};
 ghost use Rattle.choosers.specs.Choosers.{bandTo23, bandTo40};
-ghost use Rattle.boundaries.specs.Raw.{Bare};
-ghost use Rattle.boundary.specs.Choice.{nearRule, cq-rkRule, letterBy, letterAt, letterRule};
+ghost use Rattle.boundary.specs.Choice.{letterBy, letterAt, letterRule};
+ghost use Rattle.boundary.specs.Raw.{rawTo2211, rawNear, rawCq-rk};
 
 // p_saturation(643.15).
 const LIMIT: f64 = 21.0433673189753;
 
+// The small regions round the critical point up to 22.11 MPa.
+fn up_to_22_11(tuv: f64, twx: f64, tef: f64, p: MPa, t: Kelvin) -> LetterAnswer
+    ensures { λ r. ⌜ paperLetter r ≡ rawTo2211 tuv twx tef (p .0) (t .0) ⌝ }
+{
+    let three = (tuv - tuv) + (twx - twx) + (tef - tef);
+    if p.0 > 22.064 {
+        return answered(by_uyzx(Kelvin(tuv), Kelvin(tef), Kelvin(twx), t), three);
+    }
+    let tsat = raw_T_saturation(p);
+    answered(
+        by_saturated(Kelvin(tsat), Kelvin(tuv), Kelvin(twx), p, t),
+        three + (tsat - tsat),
+    )
+}
+
 // The small regions round the critical point.
 fn band_near(p: MPa, t: Kelvin) -> LetterAnswer
-    ensures { λ r. ⌜ (Bare (p .0) → paperLetter r ≡ nearRule (p .0) (t .0)) ⌝ }
+    ensures { λ r. ⌜ paperLetter r ≡ rawNear (p .0) (t .0) ⌝ }
 {
     let x = p.0;
     let tuv = bare_tabled(UV, x);
     let twx = tabled(WX, p);
     let tef = straight(p);
-    if all_finite(&[tuv, twx, tef]) {
-        if x > 22.11 {
-            return LetterAnswer::Value(by_uvwx(Kelvin(tuv), Kelvin(tef), Kelvin(twx), t));
-        }
-        if x > 22.064 {
-            return LetterAnswer::Value(by_uyzx(Kelvin(tuv), Kelvin(tef), Kelvin(twx), t));
-        }
-        let tsat = raw_T_saturation(p);
-        if is_finite(tsat) {
-            return LetterAnswer::Value(by_saturated(Kelvin(tsat), Kelvin(tuv), Kelvin(twx), p, t));
-        }
-        return LetterAnswer::Refused(Refusal::Step);
+    if x > 22.11 {
+        return answered(
+            by_uvwx(Kelvin(tuv), Kelvin(tef), Kelvin(twx), t),
+            (tuv - tuv) + (twx - twx) + (tef - tef),
+        );
     }
-    LetterAnswer::Refused(Refusal::Step)
+    up_to_22_11(tuv, twx, tef, p, t)
 }
 
 fn band_cq_rk(p: MPa, t: Kelvin) -> LetterAnswer
-    ensures { λ r. ⌜ (Bare (p .0) → paperLetter r ≡ cq-rkRule (p .0) (t .0)) ⌝ }
+    ensures { λ r. ⌜ paperLetter r ≡ rawCq-rk (p .0) (t .0) ⌝ }
 {
     let x = p.0;
     let tcd = bare_tabled(CD, x);
     let tqu = bare_tabled(QU, x);
     let trx = bare_tabled(RX, x);
     let tjk = bare_tabled(JK, x);
-    if all_finite(&[tcd, tqu, trx, tjk]) {
+    if is_finite((tcd - tcd) + (tqu - tqu) + (trx - trx) + (tjk - tjk)) {
         match round_critical(Kelvin(tcd), Kelvin(tqu), Kelvin(trx), Kelvin(tjk), t) {
             Near::Found(l) => return LetterAnswer::Value(l),
             Near::Inside => return band_near(p, t),

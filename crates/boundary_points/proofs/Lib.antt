@@ -1,2 +1,4 @@
 pub mod Published
 pub mod Points
+pub mod Saturation
+pub mod Premises

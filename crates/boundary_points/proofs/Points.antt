@@ -9,10 +9,10 @@ use Rattle.common.specs.Decimal.{scaled, decimal, whole, negative, plus, minus}
 use Rattle.common.specs.Sum.{total}
 use Rattle.subregion.specs.declared.Letter.{Letter}
 use Rattle.subregion.specs.declared.Letter.the-variants.{A, B, C, G, H, I, J, K, L, T}
-use Rattle.rules.specs.Units.{inUnits}
+use Rattle.inverses.specs.Units.{inUnits}
 use Rattle.rules.specs.Power.{powerRule}
-use Rattle.rules.specs.Root.{rootRule, nearestRoot, wholeRoot}
-use Rattle.rules.specs.Log.{logarithmRule, L as ln2}
+use Rattle.inverses.specs.Root.{rootRule, nearestRoot, wholeRoot}
+use Rattle.inverses.specs.Log.{logarithmRule, L as ln2}
 use Rattle.rules.specs.Exp.{exponentialRule}
 use Rattle.border.specs.Border.{region3Box, besideBorder, B23-p2T}
 use Rattle.r4.specs.Saturation.{p-saturation, T-saturation}

@@ -5,9 +5,9 @@ use mathlib.Core.List.{List, [], _∷_}
 use lib.Ieee.{round, neg, add, sub, sum, mul, div, ofInt, le}
 use Rattle.common.specs.Decimal.{scaled, decimal, whole, plus, minus}
 use Rattle.common.specs.Sum.{total, every}
-use Rattle.rules.specs.Units.{inUnits}
+use Rattle.inverses.specs.Units.{inUnits}
 use Rattle.rules.specs.Power.{powerRule}
-use Rattle.rules.specs.Log.{logarithmRule, L}
+use Rattle.inverses.specs.Log.{logarithmRule, L}
 use Rattle.common.proofs.Printed.{Value, prints, agrees}
 use Rattle.boundaries.specs.Boundary.{boundaryRule, walkRule, rowAt, table, straight3ef}
 use Rattle.boundaries.specs.declared.Boundary.the-variants.{Ab, Cd, Ef, Gh, Ij, Jk, Mn, Op, Qu, Rx, Uv, Wx}

@@ -1,9 +1,9 @@
--- Runs of stores joined, pieces joined, the room of a number in bytes, and NaN patterns. Assumes nothing.
+-- Runs of stores joined, pieces joined, the bytes of a number and their room, and NaN patterns. Assumes nothing.
 use mathlib.Core.Path.{_≡_, refl, sym, ap, _∙_}
 use mathlib.Core.Bool.{true, false}
 use mathlib.Core.List.{List, [], _∷_, _++_, append-nil}
-use Prim.Native.Nat.{ℕ, zero, suc, _+_, _*_, _-_, _%_, _≤_}
-use native.Mathlib.Nat.{add-zero, add-suc, suc-add, mul-suc}
+use Prim.Native.Nat.{ℕ, zero, suc, _+_, _*_, _-_, _/_, _%_, _^_, _≤_}
+use native.Mathlib.Nat.{add-zero, add-suc, suc-add, mul-suc, div-one, div-div-eq-div-mul, pow-suc}
 use native.Mathlib.Numerals.{add-one}
 use native.Mathlib.Decide.{decLe}
 use native.Mathlib.Omega.{arith}
@@ -13,7 +13,7 @@ use lib.Seq.{sets, sets-eq}
 use lib.Ieee.{Float, nan, inf, fin, Format, ofBits, isNan, ones, hid, top}
 use lib.Ieee.Bits.{nanBits-is, nanBits-above}
 use borrow.Author.Tests.{le-leb, lt-leb}
-use Rattle.buffer.specs.Bytes.{joined, placed}
+use Rattle.buffer.specs.Bytes.{joined, eight, placed}
 
 -- ---- runs of stores
 
@@ -39,20 +39,6 @@ sets-all {A} l xs e =
 pub placed-all : (s : List ℕ) (i : ℕ) (xs : List ℕ) → i + length xs ≤ length s → placed s i xs ≡ sets s i xs
 placed-all s i xs h = rw (le-leb (i + length xs) (length s) h)
 
--- a run of eight, as straight code stores it
-pub eight-stores : (l : List ℕ) (i a b c d e f g h : ℕ) →
-    set (set (set (set (set (set (set (set l i a) (i + 1) b) (i + 2) c) (i + 3) d) (i + 4) e) (i + 5) f) (i + 6) g) (i + 7) h
-    ≡ sets l i (a ∷ b ∷ c ∷ d ∷ e ∷ f ∷ g ∷ h ∷ [])
-eight-stores l i a b c d e f g h =
-    let e1 : i + 1 ≡ suc i = omega arith in
-    let e2 : i + 2 ≡ suc (suc i) = omega arith in
-    let e3 : i + 3 ≡ suc (suc (suc i)) = omega arith in
-    let e4 : i + 4 ≡ suc (suc (suc (suc i))) = omega arith in
-    let e5 : i + 5 ≡ suc (suc (suc (suc (suc i)))) = omega arith in
-    let e6 : i + 6 ≡ suc (suc (suc (suc (suc (suc i))))) = omega arith in
-    let e7 : i + 7 ≡ suc (suc (suc (suc (suc (suc (suc i)))))) = omega arith in
-    rw (e1, e2, e3, e4, e5, e6, e7)
-
 -- ---- pieces
 
 pub joined-more : {A : Type 0} (f : ℕ → List A) (n : ℕ) → joined f (n + 1) ≡ joined f n ++ f n
@@ -73,6 +59,19 @@ pieces-more {A} f b size l m i k at e h =
     ap (λ (x : List A). sets x at (f k)) e
     ∙ sets-then (joined f k) (f k) l i at (h ∙ ap (λ (n : ℕ). i + n) (sym (joined-length f b k size)))
     ∙ ap (λ (x : List A). sets l i x) (sym (joined-more f k))
+
+-- ---- the bytes of a number
+
+-- the bytes 0 to k - 1, the little end first
+abbrev pub bytesTo : ℕ → ℕ → List ℕ
+bytesTo n k = joined (λ i. (n / 256 ^ i % 256) ∷ []) k
+
+pub byte-next : (n k : ℕ) → n / 256 ^ k / 256 ≡ n / 256 ^ (k + 1)
+byte-next n k = div-div-eq-div-mul n (256 ^ k) 256 ∙ ap (λ (m : ℕ). n / m) (sym (ap (λ (m : ℕ). 256 ^ m) (add-one k) ∙ pow-suc 256 k))
+
+pub bytes-eight : (n : ℕ) → bytesTo n 8 ≡ eight n
+unfolding joined
+bytes-eight n = rw div-one
 
 -- ---- room
 

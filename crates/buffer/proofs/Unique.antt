@@ -6,45 +6,30 @@ use contract.Lifetimes.{Lfts}
 use denote.Triple.Clauses.{AtExit}
 use borrow.Fn.Kinds.{Dens, endedOf, resT}
 use Rattle.common.proofs.Same.{One}
-use Rattle.buffer.proofs.lies.Kinds as lies-kinds
-use Rattle.buffer.proofs.lies.Reads as lies
-use Rattle.buffer.proofs.byte_at.Kinds as byte-at-kinds
-use Rattle.buffer.proofs.byte_at.Reads as byte-at
-use Rattle.buffer.proofs.wide.Kinds as wide-kinds
-use Rattle.buffer.proofs.wide.Reads as wide
-use Rattle.buffer.proofs.int_at.Kinds as int-at-kinds
-use Rattle.buffer.proofs.int_at.Reads as int-at
-use Rattle.buffer.proofs.float_of.Kinds as float-of-kinds
-use Rattle.buffer.proofs.float_of.Reads as float-of
-use Rattle.buffer.proofs.float_at.Kinds as float-at-kinds
-use Rattle.buffer.proofs.float_at.Reads as float-at
-use Rattle.buffer.proofs.put_word.Kinds as put-word-kinds
-use Rattle.buffer.proofs.put_word.Reads as put-word
-use Rattle.buffer.proofs.put_float.Kinds as put-float-kinds
-use Rattle.buffer.proofs.put_float.Reads as put-float
+use Rattle.buffer.proofs as own
 
-pub lies-one : One 0 lies-kinds.ps lies-kinds.r lies.Post
+pub lies-one : One 0 own.lies.Kinds.ps own.lies.Kinds.r own.lies.Reads.Post
 lies-one κs a e x y p q = p ∙ sym q
 
-pub byte-at-one : One 1 byte-at-kinds.ps byte-at-kinds.r byte-at.Post
+pub byte-at-one : One 1 own.byte_at.Kinds.ps own.byte_at.Kinds.r own.byte_at.Reads.Post
 byte-at-one κs a e x y p q = p ∙ sym q
 
-pub wide-one : One 0 wide-kinds.ps wide-kinds.r wide.Post
+pub wide-one : One 0 own.wide.Kinds.ps own.wide.Kinds.r own.wide.Reads.Post
 wide-one κs a e x y p q = p .0 ∙ sym (q .0)
 
-pub int-at-one : One 1 int-at-kinds.ps int-at-kinds.r int-at.Post
+pub int-at-one : One 1 own.int_at.Kinds.ps own.int_at.Kinds.r own.int_at.Reads.Post
 int-at-one κs a e x y p q = p ∙ sym q
 
-pub float-of-one : One 0 float-of-kinds.ps float-of-kinds.r float-of.Post
+pub float-of-one : One 0 own.float_of.Kinds.ps own.float_of.Kinds.r own.float_of.Reads.Post
 float-of-one κs a e x y p q = p ∙ sym q
 
-pub float-at-one : One 1 float-at-kinds.ps float-at-kinds.r float-at.Post
+pub float-at-one : One 1 own.float_at.Kinds.ps own.float_at.Kinds.r own.float_at.Reads.Post
 float-at-one κs a e x y p q = p ∙ sym q
 
-pub put-word-one : (κs : Lfts 1) (a : Dens κs put-word-kinds.ps) (d e : AtExit (endedOf 1 put-word-kinds.ps put-word-kinds.r) κs) (x y : resT put-word-kinds.r κs .Denot) →
-    put-word.Post κs a x d → put-word.Post κs a y e → now (d .0) ≡ now (e .0)
+pub put-word-one : (κs : Lfts 1) (a : Dens κs own.put_word.Kinds.ps) (d e : AtExit (endedOf 1 own.put_word.Kinds.ps own.put_word.Kinds.r) κs) (x y : resT own.put_word.Kinds.r κs .Denot) →
+    own.put_word.Reads.Post κs a x d → own.put_word.Reads.Post κs a y e → now (d .0) ≡ now (e .0)
 put-word-one κs a d e x y p q = p ∙ sym q
 
-pub put-float-one : (κs : Lfts 1) (a : Dens κs put-float-kinds.ps) (d e : AtExit (endedOf 1 put-float-kinds.ps put-float-kinds.r) κs) (x y : resT put-float-kinds.r κs .Denot) →
-    put-float.Post κs a x d → put-float.Post κs a y e → now (d .0) ≡ now (e .0)
+pub put-float-one : (κs : Lfts 1) (a : Dens κs own.put_float.Kinds.ps) (d e : AtExit (endedOf 1 own.put_float.Kinds.ps own.put_float.Kinds.r) κs) (x y : resT own.put_float.Kinds.r κs .Denot) →
+    own.put_float.Reads.Post κs a x d → own.put_float.Reads.Post κs a y e → now (d .0) ≡ now (e .0)
 put-float-one κs a d e x y p q = p ∙ sym q

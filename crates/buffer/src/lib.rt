@@ -1,6 +1,6 @@
 // Numbers in lent bytes, the little end first. A number of which a byte would lie past the end reads as 0, and is not written.
 ghost use mathlib.Core.Path.{_≡_};
-ghost use Prim.Native.Nat.{_+_, _≤_, _<_, _^_, _%_};
+ghost use Prim.Native.Nat.{_+_, _≤_, _<_, _^_};
 ghost use lib.Dec.{leb};
 ghost use lib.ListN.{length, getD};
 ghost use lib.Seq.{sets};
@@ -85,24 +85,17 @@ pub fn float_at(s: &[u8], at: usize) -> f64
     0.0
 }
 
-fn low(n: u64) -> u8
-    ensures { λ r. ⌜ r ≡ n % 256 ⌝ }
-{
-    (n % 256) as u8
-}
-
 fn put_eight(out: &mut [u8], at: usize, n: u64)
     requires { ⌜ at + 8 ≤ length (now out) ⌝ }
     ensures { λ _. ⌜ now (out .exit) ≡ sets (now (out .entry)) at (eight n) ⌝ }
 {
-    out[at] = low(n);
-    out[at + 1] = low(n / 0x100);
-    out[at + 2] = low(n / 0x1_0000);
-    out[at + 3] = low(n / 0x100_0000);
-    out[at + 4] = low(n / 0x1_0000_0000);
-    out[at + 5] = low(n / 0x100_0000_0000);
-    out[at + 6] = low(n / 0x1_0000_0000_0000);
-    out[at + 7] = low(n / 0x100_0000_0000_0000);
+    let mut rest = n;
+    let mut k = 0;
+    while k < 8 {
+        out[at + k] = (rest % 256) as u8;
+        rest = rest / 256;
+        k += 1;
+    }
 }
 
 // Eight bytes.

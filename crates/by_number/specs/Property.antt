@@ -65,10 +65,13 @@ formulaIn (named k f ∷ rs) n = cond (isNumber k n) (value f) (formulaIn rs n)
 abbrev pub propertyRule : ℤ → Float → Float → Outcome Float
 propertyRule n t d = then (formulaIn properties n) (λ f. called f t d)
 
--- ---- Helps proofs only: the same in any list, and the numbers after the first nine
+-- ---- Helps proofs only: the same in any list, the numbers after the first nine, and the last eight
 
 abbrev pub ruleIn : List Named → ℤ → Float → Float → Outcome Float
 ruleIn ns n t d = then (formulaIn ns n) (λ f. called f t d)
 
 abbrev pub later : List Named
 later = drop 9 properties
+
+abbrev pub last : List Named
+last = drop 8 later

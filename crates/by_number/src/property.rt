@@ -59,7 +59,7 @@ use properties::state_p;
 ghost use mathlib.Core.Path.{_≡_};
 ghost use Rattle.common.specs.Outcome.{check};
 ghost use Rattle.common.specs.Answer.{paper};
-ghost use Rattle.by_number.specs.Property.{boxed, later, ruleIn, propertyRule};
+ghost use Rattle.by_number.specs.Property.{boxed, later, last, ruleIn, propertyRule};
 ghost use Rattle.by_number.specs.Together.{paperCpW, cpAndWRule};
 
 // The checks of the call, then what its formula answers.
@@ -91,6 +91,23 @@ pub fn Td2cp_w_reg3(t: Kelvin, d: KgPerM3) -> CpW
     }
 }
 
+// The last eight numbers.
+fn last_property(t: Kelvin, d: KgPerM3, o_id: i32) -> Answer
+    ensures { λ r. ⌜ paper r ≡ ruleIn last «o_id» (t .0) (d .0) ⌝ }
+{
+    match o_id {
+        ODPDT => settled(t, d, raw_dpdtcv(t, d)),
+        OIJTC => settled(t, d, raw_iJTC(t, d)),
+        OJTC => settled(t, d, raw_joule(t, d)),
+        OPC => answered(t, d, state_pc(t, d)),
+        OBETAP => answered(t, d, state_batap(t, d)),
+        OFI => settled(t, d, raw_fi(t, d)),
+        OFU => answered(t, d, state_fu(t, d)),
+        OALFAP => answered(t, d, state_alfap(t, d)),
+        _ => Answer::Refused(Refusal::Property),
+    }
+}
+
 // The numbers after the first nine.
 fn later_property(t: Kelvin, d: KgPerM3, o_id: i32) -> Answer
     ensures { λ r. ⌜ paper r ≡ ruleIn later «o_id» (t .0) (d .0) ⌝ }
@@ -104,15 +121,7 @@ fn later_property(t: Kelvin, d: KgPerM3, o_id: i32) -> Answer
         OKT => settled(t, d, raw_kt(t, d)),
         ODVDT => settled(t, d, raw_dvdtcp(t, d)),
         ODVDP => settled(t, d, raw_dvdpct(t, d)),
-        ODPDT => settled(t, d, raw_dpdtcv(t, d)),
-        OIJTC => settled(t, d, raw_iJTC(t, d)),
-        OJTC => settled(t, d, raw_joule(t, d)),
-        OPC => answered(t, d, state_pc(t, d)),
-        OBETAP => answered(t, d, state_batap(t, d)),
-        OFI => settled(t, d, raw_fi(t, d)),
-        OFU => answered(t, d, state_fu(t, d)),
-        OALFAP => answered(t, d, state_alfap(t, d)),
-        _ => Answer::Refused(Refusal::Property),
+        _ => last_property(t, d, o_id),
     }
 }
 

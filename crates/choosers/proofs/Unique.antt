@@ -1,58 +1,37 @@
 -- Each contract admits one answer. Assumes nothing.
 use mathlib.Core.Path.{sym, _∙_}
 use Rattle.common.proofs.Same.{One}
-use Rattle.choosers.proofs.letter_by.by_ab.Kinds as by-ab-kinds
-use Rattle.choosers.proofs.letter_by.by_ab.Reads as by-ab
-use Rattle.choosers.proofs.letter_by.by_cdef.Kinds as by-cdef-kinds
-use Rattle.choosers.proofs.letter_by.by_cdef.Reads as by-cdef
-use Rattle.choosers.proofs.letter_by.by_chijk.Kinds as by-chijk-kinds
-use Rattle.choosers.proofs.letter_by.by_chijk.Reads as by-chijk
-use Rattle.choosers.proofs.letter_by.by_clmnopjk.Kinds as by-clmnopjk-kinds
-use Rattle.choosers.proofs.letter_by.by_clmnopjk.Reads as by-clmnopjk
-use Rattle.choosers.proofs.letter_by.by_csrk.Kinds as by-csrk-kinds
-use Rattle.choosers.proofs.letter_by.by_csrk.Reads as by-csrk
-use Rattle.choosers.proofs.letter_by.by_cst.Kinds as by-cst-kinds
-use Rattle.choosers.proofs.letter_by.by_cst.Reads as by-cst
-use Rattle.choosers.proofs.letter_by.by_ct.Kinds as by-ct-kinds
-use Rattle.choosers.proofs.letter_by.by_ct.Reads as by-ct
-use Rattle.choosers.proofs.letter_by.round_critical.Kinds as round-critical-kinds
-use Rattle.choosers.proofs.letter_by.round_critical.Reads as round-critical
-use Rattle.choosers.proofs.letter_by.by_uvwx.Kinds as by-uvwx-kinds
-use Rattle.choosers.proofs.letter_by.by_uvwx.Reads as by-uvwx
-use Rattle.choosers.proofs.letter_by.by_uyzx.Kinds as by-uyzx-kinds
-use Rattle.choosers.proofs.letter_by.by_uyzx.Reads as by-uyzx
-use Rattle.choosers.proofs.letter_by.by_saturated.Kinds as by-saturated-kinds
-use Rattle.choosers.proofs.letter_by.by_saturated.Reads as by-saturated
+use Rattle.choosers.proofs as own
 
-pub by-ab-one : One 0 by-ab-kinds.ps by-ab-kinds.r by-ab.Post
+pub by-ab-one : One 0 own.letter_by.by_ab.Kinds.ps own.letter_by.by_ab.Kinds.r own.letter_by.by_ab.Reads.Post
 by-ab-one κs a e x y p q = p ∙ sym q
 
-pub by-cdef-one : One 0 by-cdef-kinds.ps by-cdef-kinds.r by-cdef.Post
+pub by-cdef-one : One 0 own.letter_by.by_cdef.Kinds.ps own.letter_by.by_cdef.Kinds.r own.letter_by.by_cdef.Reads.Post
 by-cdef-one κs a e x y p q = p ∙ sym q
 
-pub by-chijk-one : One 0 by-chijk-kinds.ps by-chijk-kinds.r by-chijk.Post
+pub by-chijk-one : One 0 own.letter_by.by_chijk.Kinds.ps own.letter_by.by_chijk.Kinds.r own.letter_by.by_chijk.Reads.Post
 by-chijk-one κs a e x y p q = p ∙ sym q
 
-pub by-clmnopjk-one : One 0 by-clmnopjk-kinds.ps by-clmnopjk-kinds.r by-clmnopjk.Post
+pub by-clmnopjk-one : One 0 own.letter_by.by_clmnopjk.Kinds.ps own.letter_by.by_clmnopjk.Kinds.r own.letter_by.by_clmnopjk.Reads.Post
 by-clmnopjk-one κs a e x y p q = p ∙ sym q
 
-pub by-csrk-one : One 0 by-csrk-kinds.ps by-csrk-kinds.r by-csrk.Post
+pub by-csrk-one : One 0 own.letter_by.by_csrk.Kinds.ps own.letter_by.by_csrk.Kinds.r own.letter_by.by_csrk.Reads.Post
 by-csrk-one κs a e x y p q = p ∙ sym q
 
-pub by-cst-one : One 0 by-cst-kinds.ps by-cst-kinds.r by-cst.Post
+pub by-cst-one : One 0 own.letter_by.by_cst.Kinds.ps own.letter_by.by_cst.Kinds.r own.letter_by.by_cst.Reads.Post
 by-cst-one κs a e x y p q = p ∙ sym q
 
-pub by-ct-one : One 0 by-ct-kinds.ps by-ct-kinds.r by-ct.Post
+pub by-ct-one : One 0 own.letter_by.by_ct.Kinds.ps own.letter_by.by_ct.Kinds.r own.letter_by.by_ct.Reads.Post
 by-ct-one κs a e x y p q = p ∙ sym q
 
-pub round-critical-one : One 0 round-critical-kinds.ps round-critical-kinds.r round-critical.Post
+pub round-critical-one : One 0 own.letter_by.round_critical.Kinds.ps own.letter_by.round_critical.Kinds.r own.letter_by.round_critical.Reads.Post
 round-critical-one κs a e x y p q = p ∙ sym q
 
-pub by-uvwx-one : One 0 by-uvwx-kinds.ps by-uvwx-kinds.r by-uvwx.Post
+pub by-uvwx-one : One 0 own.letter_by.by_uvwx.Kinds.ps own.letter_by.by_uvwx.Kinds.r own.letter_by.by_uvwx.Reads.Post
 by-uvwx-one κs a e x y p q = p ∙ sym q
 
-pub by-uyzx-one : One 0 by-uyzx-kinds.ps by-uyzx-kinds.r by-uyzx.Post
+pub by-uyzx-one : One 0 own.letter_by.by_uyzx.Kinds.ps own.letter_by.by_uyzx.Kinds.r own.letter_by.by_uyzx.Reads.Post
 by-uyzx-one κs a e x y p q = p ∙ sym q
 
-pub by-saturated-one : One 0 by-saturated-kinds.ps by-saturated-kinds.r by-saturated.Post
+pub by-saturated-one : One 0 own.letter_by.by_saturated.Kinds.ps own.letter_by.by_saturated.Kinds.r own.letter_by.by_saturated.Reads.Post
 by-saturated-one κs a e x y p q = p ∙ sym q

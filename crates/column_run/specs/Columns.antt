@@ -1,23 +1,12 @@
--- To believe: the column run (docs/SCOPE.md): what each byte of the three columns holds, first of a row, then of the columns.
--- Assumes nothing: these are definitions.
-use Rattle.record.specs.Record.{byteOf}
+-- To believe: the column run (docs/SCOPE.md): what each byte of the three columns holds. Assumes nothing: these are definitions.
 use Prim.Native.Nat.{ℕ}
 use mathlib.Core.Bool.{Bool, cond, _&&_}
 use mathlib.Core.List.{List, [], _∷_}
 use lib.Dec.{eqb}
 use lib.ListN.{length}
 use lib.Ieee.{Float}
-use Rattle.common.specs.Outcome.{Outcome, value, refused, zeroF}
-use Rattle.volume.specs.Volumes.{State, foundRule}
-use Rattle.column_run.specs.declared.Line.{Line}
-
--- a row of what (p,T) finds: the origin's byte and d; a refused row holds letter 0, +0.0 and its number
-abbrev pub lineIn : Outcome State → Line
-lineIn (value s) = record { letter = byteOf (s .origin); density = s .d; refusal = 0 }
-lineIn (refused k) = record { letter = 0; density = zeroF; refusal = k }
-
-unfoldable pub rowRule : Float → Float → Line
-rowRule p t = lineIn (foundRule p t)
+use Rattle.common.specs.Outcome.{Outcome, value, refused}
+use Rattle.column_row.specs.Row.{rowRule}
 
 abbrev pub letterIn : Float → Float → ℕ
 letterIn p t = rowRule p t .letter
@@ -27,8 +16,6 @@ densityIn p t = rowRule p t .density
 
 abbrev pub refusalIn : Float → Float → ℕ
 refusalIn p t = rowRule p t .refusal
-
--- ---- the columns
 
 -- row i from pair i alone
 unfoldable pub rowsBy : {A : Type 0} → (Float → Float → A) → List Float → List Float → List A

@@ -1,94 +1,18 @@
-// The column run: rows of p and T in, a letter byte, a density and a refusal byte for each row out (specs/Columns.antt). Here are one row, then the
-// two turns over a column: the first marks where each row's volume comes from, the second works the densities (specs/TwoTurns.antt).
-use crate::Line;
+// The column run: rows of p and T in, a letter byte, a density and a refusal byte for each row out (specs/Columns.antt), in two turns over the columns: the
+// first marks where each row's volume comes from, the second works the densities (column_row).
+use column_row::line_of;
+use column_row::mark;
+use column_row::stop;
 use common::Kelvin;
 use common::MPa;
 use common::Refusal;
 use common::Verdict;
-use common::number;
-use record::Origin;
-use record::origin_byte;
-use subregion::ascii;
-use subregion::of_byte;
-use volume::OriginAnswer;
-use volume::StateAnswer;
-use volume::found_by;
-use volume::origin_pT;
+use origin::origin_pT;
 ghost use mathlib.Core.Path.{_≡_};
 ghost use lib.ListN.{length};
-ghost use Rattle.common.specs.Outcome.{numberIn};
 ghost use Rattle.common.specs.Answer.{paperVerdict};
-ghost use Rattle.volume.specs.Volumes.{paperOrigin};
-ghost use Rattle.column_run.specs.Columns.{lent, same, rowRule, letterIn, densityIn, refusalIn, rowsBy, columnsRule};
-ghost use Rattle.column_run.specs.TwoTurns.{markOf, ofMark, lineBy, markIn, stopIn};
-
-// The mark of a row at the critical point, which has no letter.
-const CRITICAL: u8 = 1;
-
-// What a row's letter byte holds until its density is worked: the letter, the critical point's mark, or 0 where the row is refused.
-fn mark(w: OriginAnswer) -> u8
-    ensures { λ r. ⌜ r ≡ markOf (paperOrigin w) ⌝ }
-{
-    match w {
-        OriginAnswer::Value(o) => match o {
-            Origin::Subregion(l) => ascii(l),
-            Origin::Critical => CRITICAL,
-        },
-        OriginAnswer::Refused(_) => 0,
-    }
-}
-
-// What its refusal byte holds until then.
-fn stop(w: OriginAnswer) -> u8
-    ensures { λ r. ⌜ r ≡ numberIn (paperOrigin w) ⌝ }
-{
-    match w {
-        OriginAnswer::Value(_) => 0,
-        OriginAnswer::Refused(k) => number(k),
-    }
-}
-
-fn of_mark(m: u8) -> Origin
-    ensures { λ r. ⌜ r ≡ ofMark m ⌝ }
-{
-    if m == CRITICAL {
-        return Origin::Critical;
-    }
-    Origin::Subregion(of_byte(m))
-}
-
-// The row from what its bytes hold until then.
-fn line_of(m: u8, k: u8, p: MPa, t: Kelvin) -> Line
-    ensures { λ r. ⌜ r ≡ lineBy m k (p .0) (t .0) ⌝ }
-{
-    if m == 0 {
-        return Line {
-            letter: 0,
-            density: 0.0,
-            refusal: k,
-        };
-    }
-    match found_by(of_mark(m), p, t) {
-        StateAnswer::Value(o, _, d) => Line {
-            letter: origin_byte(o),
-            density: d,
-            refusal: 0,
-        },
-        StateAnswer::Refused(k) => Line {
-            letter: 0,
-            density: 0.0,
-            refusal: number(k),
-        },
-    }
-}
-
-// One row, by the steps of (p,T) as far as d.
-pub fn row(p: MPa, t: Kelvin) -> Line
-    ensures { λ r. ⌜ r ≡ rowRule (p .0) (t .0) ⌝ }
-{
-    let w = origin_pT(p, t);
-    line_of(mark(w), stop(w), p, t)
-}
+ghost use Rattle.column_run.specs.Columns.{lent, same, letterIn, densityIn, refusalIn, rowsBy, columnsRule};
+ghost use Rattle.column_row.specs.TwoTurns.{markIn, stopIn};
 
 // The marks and the refusals so far of all rows. A processor need not wait here for one row's letter to begin with the next, and where
 // the densities are worked every letter is known.

@@ -4,4 +4,3 @@ pub mod Expressions
 pub mod Distances
 pub mod Letters
 pub mod Contract
-pub mod Points

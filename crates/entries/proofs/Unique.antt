@@ -9,16 +9,13 @@ use denote.Triple.Clauses.{AtExit}
 use borrow.Fn.Kinds.{Dens, endedOf, resT}
 use Rattle.common.proofs.Same.{One}
 use Rattle.entries.specs.Rows.{repliesTo}
-use Rattle.entries.proofs.call.answer.Kinds as answer-kinds
-use Rattle.entries.proofs.call.answer.Reads as answer
-use Rattle.entries.proofs.page.answer_rows.Kinds as answer-rows-kinds
-use Rattle.entries.proofs.page.answer_rows.Reads as answer-rows
+use Rattle.entries.proofs as own
 
-pub answer-one : One 0 answer-kinds.ps answer-kinds.r answer.Post
+pub answer-one : One 0 own.call.answer.Kinds.ps own.call.answer.Kinds.r own.call.answer.Reads.Post
 answer-one κs a e x y p q = p ∙ sym q
 
-pub answer-rows-one : (κs : Lfts 2) (a : Dens κs answer-rows-kinds.ps) (d e : AtExit (endedOf 2 answer-rows-kinds.ps answer-rows-kinds.r) κs) (x y : resT answer-rows-kinds.r κs .Denot) →
-    answer-rows.Post κs a x d → answer-rows.Post κs a y e → (x ≡ y) × (now (d .1 .0) ≡ now (e .1 .0))
+pub answer-rows-one : (κs : Lfts 2) (a : Dens κs own.page.answer_rows.Kinds.ps) (d e : AtExit (endedOf 2 own.page.answer_rows.Kinds.ps own.page.answer_rows.Kinds.r) κs) (x y : resT own.page.answer_rows.Kinds.r κs .Denot) →
+    own.page.answer_rows.Reads.Post κs a x d → own.page.answer_rows.Reads.Post κs a y e → (x ≡ y) × (now (d .1 .0) ≡ now (e .1 .0))
 answer-rows-one κs a d e x y p q =
     let n : x ≡ y = p .0 ∙ sym (q .0) in
     (n, p .1 ∙ ap (λ (k : ℕ). sets (now (a .1 .0)) 0 (repliesTo (now (a .0)) k)) n ∙ sym (q .1))

@@ -1,14 +1,10 @@
--- To believe: the reply of a row of the column run, of cp and w together, of what a search found, and what a whole number names.
-use mathlib.Core.Bool.{cond}
-use Prim.Native.Nat.{ℕ, _^_}
-use mathlib.Core.List.{List, _∷_}
-use lib.Dec.{ltb}
-use lib.IntN.{ℤ, pos, negsuc}
-use lib.ListN.{length, getD, replicate}
+-- To believe: the reply of a row of the column run, of cp and w together, of what a search found.
+use mathlib.Core.List.{_∷_}
+use lib.ListN.{replicate}
 use Rattle.common.specs.Outcome.{Outcome, value, refused, numberIn, valueIn, zeroF}
 use Rattle.properties.specs.Together.{CpAndW}
 use Rattle.record.specs.Record.{fieldsOf}
-use Rattle.column_run.specs.declared.Line.{Line}
+use Rattle.column_row.specs.declared.Line.{Line}
 use Rattle.secant.specs.Secant.{Proposal}
 use Rattle.search.specs.Calls.{SearchedReport as Told}
 use Rattle.reply.specs.declared.Reply.{Reply}
@@ -31,16 +27,3 @@ foundReply (refused k) = refusedBy k
 -- a record whose state a search found, and the trials beside
 abbrev pub searchedReply : Told → Reply
 searchedReply a = record { refusal = numberIn (a .verdict); letter = 0; beside = a .trials; numbers = fieldsOf (a .state) }
-
--- no such entry, boundary, letter or phase
-abbrev pub unknown : Reply
-unknown = refusedBy 255
-
--- the place that a number names in a list; a negative one is past the end of every list
-abbrev pub placeOf : ℤ → ℕ
-placeOf (pos k) = k
-placeOf (negsuc k) = 2 ^ 32
-
--- what f answers for the entry of a list at a place (d stands where there is none, and is never asked)
-abbrev pub named : {A : Type 0} → List A → A → ℕ → (A → Reply) → Reply
-named xs d k f = cond (ltb k (length xs)) (f (getD xs k d)) unknown

@@ -1,7 +1,6 @@
-// What the entries add to the shapes of a reply: a row of the column run, cp and w together, what a search found with its trials, and what a
-// whole number names.
+// What the entries add to the shapes of a reply: a row of the column run, cp and w together, what a search found with its trials.
 use by_number::CpW;
-use column_run::Line;
+use column_row::Line;
 use common::number;
 use common::verdict_byte;
 use record::fields;
@@ -14,10 +13,7 @@ ghost use mathlib.Core.Path.{_≡_};
 ghost use Rattle.by_number.specs.Together.{paperCpW};
 ghost use Rattle.place.specs.AcceptedPlace.{paperFound};
 ghost use Rattle.search.specs.Calls.{paperSearched};
-ghost use Rattle.entries.specs.Named.{rowReply, cpWReply, foundReply, searchedReply, placeOf};
-
-// The refusal of an entry, a boundary, a letter or a phase that does not exist.
-pub const UNKNOWN: u8 = 255;
+ghost use Rattle.entries.specs.Named.{rowReply, cpWReply, foundReply, searchedReply};
 
 pub fn row_reply(l: Line) -> Reply
     ensures { λ r. ⌜ r ≡ rowReply l ⌝ }
@@ -75,11 +71,4 @@ pub fn searched_reply(a: SearchedRecord) -> Reply
         beside: a.trials,
         numbers: fields(x),
     }
-}
-
-// The place that a number names in a list. A negative one is past the end of every list.
-pub fn place(n: i32) -> usize
-    ensures { λ r. ⌜ r ≡ placeOf n ⌝ }
-{
-    if n < 0 { 0x1_0000_0000 } else { n as usize }
 }

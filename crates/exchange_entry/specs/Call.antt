@@ -1,9 +1,8 @@
--- To believe: the point that was read, the entry of each pair, and the answer to a record: the reader's refusal, or the entry's own answer with the pair.
+-- To believe: the entry of each pair, and the answer to a record: the reader's refusal, or the entry's own answer with the pair.
 -- Assumes nothing: these are definitions.
 use mathlib.Core.Path.{_≡_}
 use mathlib.Core.List.{List}
 use Prim.Native.Nat.{ℕ}
-use lib.Ieee.{Float, binary64, ofBits}
 use Rattle.common.specs.Outcome.{Outcome, value, refused, numberIn}
 use Rattle.common.specs.Answer.{numberOf}
 use Rattle.record.specs.declared.Record.{Record}
@@ -11,27 +10,15 @@ use Rattle.record.specs.Record.{report}
 use Rattle.td_record.specs.Steps.{recordRule}
 use Rattle.region3.specs.Entries.{pTRule, phRule, psRule, hsRule}
 use Rattle.exchange_record.specs.declared.Pair.{Pair}
-use Rattle.exchange_record.specs.declared.Pair.the-variants as pair
 use Rattle.exchange_record.specs.declared.Asked.{Asked}
 use Rattle.exchange_record.specs.Reading.{Means, readNumber, pairByte}
-use Rattle.exchange_entry.specs.declared.Point.{Point}
-use Rattle.exchange_entry.specs.declared.Point.the-variants as at
+use Rattle.exchange_writer.specs.declared.Point.{Point}
+use Rattle.exchange_writer.specs.declared.Point.the-variants as at
+use Rattle.exchange_writer.specs.Point.{pointOf}
 use Rattle.exchange_entry.specs.declared.ExchangeRefusal.the-variants.{Reader, Entry}
 use Rattle.exchange_entry.specs.declared.ExchangeVerdict.{ExchangeVerdict}
 use Rattle.exchange_entry.specs.declared.ExchangeVerdict.the-variants as verdict
 use Rattle.exchange_entry.specs.declared.ExchangeAnswer.{ExchangeAnswer}
-
--- the two numbers in the order of their tags, which is each entry's own order
-abbrev pub pointAt : Pair → Float → Float → Point
-pointAt pair.PT a b = at.PT (record { 0 = a }) (record { 0 = b })
-pointAt pair.TD a b = at.TD (record { 0 = a }) (record { 0 = b })
-pointAt pair.PH a b = at.PH (record { 0 = a }) (record { 0 = b })
-pointAt pair.PS a b = at.PS (record { 0 = a }) (record { 0 = b })
-pointAt pair.HS a b = at.HS (record { 0 = a }) (record { 0 = b })
-
--- any eight bytes are a number, a NaN's patterns too
-abbrev pub pointOf : Asked → Point
-pointOf q = pointAt (q .pair) (ofBits binary64 (q .a)) (ofBits binary64 (q .b))
 
 abbrev pub entryRule : Point → Outcome Record
 entryRule (at.PT p t) = pTRule (p .0) (t .0)

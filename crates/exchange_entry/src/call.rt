@@ -1,14 +1,7 @@
-// From bits to a point, from a point to its entry, from a record to both.
+// From a point to its entry, and from a record to both.
 use crate::ExchangeAnswer;
 use crate::ExchangeRefusal;
 use crate::ExchangeVerdict;
-use crate::Point;
-use buffer::float_of;
-use common::KJPerKg;
-use common::KJPerKgK;
-use common::Kelvin;
-use common::KgPerM3;
-use common::MPa;
 use common::Verdict;
 use common::number;
 use exchange_record::Asked;
@@ -17,6 +10,8 @@ use exchange_record::ReadAnswer;
 use exchange_record::pair_byte;
 use exchange_record::read;
 use exchange_record::read_number;
+use exchange_writer::Point;
+use exchange_writer::point_of;
 use record::Record;
 use record::RecordAnswer;
 use record::blank;
@@ -29,28 +24,7 @@ ghost use mathlib.Core.Path.{_≡_};
 ghost use Rattle.common.specs.Outcome.{value};
 ghost use Rattle.common.specs.Answer.{paperVerdict};
 ghost use Rattle.record.specs.Record.{report, paperRecord};
-ghost use Rattle.exchange_entry.specs.Call.{pointAt, pointOf, entryRule, exchangeOf, paperExchange, heard, verdictNumber, verdictPair, Exchanged};
-
-// The point of two numbers, each under the unit that its pair says.
-pub fn point_at(pair: Pair, a: f64, b: f64) -> Point
-    ensures { λ r. ⌜ r ≡ pointAt pair a b ⌝ }
-{
-    match pair {
-        Pair::PT => Point::PT(MPa(a), Kelvin(b)),
-        Pair::TD => Point::TD(Kelvin(a), KgPerM3(b)),
-        Pair::PH => Point::PH(MPa(a), KJPerKg(b)),
-        Pair::PS => Point::PS(MPa(a), KJPerKgK(b)),
-        Pair::HS => Point::HS(KJPerKg(a), KJPerKgK(b)),
-    }
-}
-
-// The point of what was read: the numbers of its bits, each under its unit.
-pub fn point_of(q: Asked) -> Point
-    ensures { λ r. ⌜ r ≡ pointOf q ⌝ }
-{
-    let pair = q.pair;
-    point_at(pair, float_of(q.a), float_of(q.b))
-}
+ghost use Rattle.exchange_entry.specs.Call.{entryRule, exchangeOf, paperExchange, heard, verdictNumber, verdictPair, Exchanged};
 
 // The point's own entry.
 pub fn ask(given: Record, x: Point) -> RecordAnswer

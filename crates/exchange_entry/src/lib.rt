@@ -1,31 +1,18 @@
-// The exchange record answered: what was read as a point under its units, the point's entry, and the two together.
-use common::KJPerKg;
-use common::KJPerKgK;
-use common::Kelvin;
-use common::KgPerM3;
-use common::MPa;
+// The exchange record and the entries: a record answered by its point's own entry (`call`), and a point written where its own entry accepts it (`writing`).
 use common::Refusal;
 use exchange_record::Pair;
 use exchange_record::ReadRefusal;
 use record::Record;
 
 mod call;
+mod writing;
 
 pub use call::answer;
 pub use call::ask;
-pub use call::point_at;
-pub use call::point_of;
 pub use call::verdict_number;
 pub use call::verdict_pair;
-
-// The two numbers of a pair, each under its unit.
-pub enum Point {
-    PT(MPa, Kelvin),
-    TD(Kelvin, KgPerM3),
-    PH(MPa, KJPerKg),
-    PS(MPa, KJPerKgK),
-    HS(KJPerKg, KJPerKgK),
-}
+pub use writing::write;
+pub use writing::write_by;
 
 // Why a record has no answer: the reader's refusal, or the entry's, which stands with the pair that was read.
 pub enum ExchangeRefusal {

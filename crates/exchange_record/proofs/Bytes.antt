@@ -21,9 +21,9 @@ pub eight-bytes : (s : List ℕ) (i : ℕ) → i + 8 ≤ length s → 2 ^ 32 * h
 eight-bytes s i h =
     let e1 : i + 1 ≡ suc i = omega arith in
     let e2 : i + 2 ≡ suc (suc i) = omega arith in
-    let e3 : i + 3 ≡ suc (suc (suc i)) = omega arith in
+    let e3 : i + 2 + 1 ≡ suc (suc (suc i)) = omega arith in
     let e4 : i + 4 ≡ suc (suc (suc (suc i))) = omega arith in
     let e5 : i + 4 + 1 ≡ suc (suc (suc (suc (suc i)))) = omega arith in
     let e6 : i + 4 + 2 ≡ suc (suc (suc (suc (suc (suc i))))) = omega arith in
-    let e7 : i + 4 + 3 ≡ suc (suc (suc (suc (suc (suc (suc i)))))) = omega arith in
-    rw (taken-bytes s i 8 h, e5, e6, e7, e4, e3, e2, e1) (omega arith)
+    let e7 : i + 4 + 2 + 1 ≡ suc (suc (suc (suc (suc (suc (suc i)))))) = omega arith in
+    rw (taken-bytes s i 8 h, e7, e6, e5, e4, e3, e2, e1) (omega arith)

@@ -124,16 +124,16 @@ forms-taken [] f ks q w m =
     let e : f ≡ m .first = cc in
     let r = rising (m .first .tag) (m .second .tag) (q .pair) (m .pair) in
     let t : f .tag ≡ m .first .tag = ap (λ g. g .tag) e in
-    let z : length (f .body) ≡ 8 = ap (λ g. length (g .body)) e ∙ m .eight-a in
-    is-taken 0 (f .tag) (said f) (omega arith) (omega arith) (sym w ∙ z) (omega arith)
+    let z : length (f .body) ≡ 8 = rw e (m .eight-a) in
+    is-taken 0 (f .tag) (said f) (omega arith) (omega arith) (omega arith) (omega arith)
 forms-taken (g ∷ []) f ks q w m =
     let d : g ≡ m .first = cc in
     let e : f ≡ m .second = cc in
     let r = rising (m .first .tag) (m .second .tag) (q .pair) (m .pair) in
     let u : g .tag ≡ m .first .tag = ap (λ x. x .tag) d in
     let t : f .tag ≡ m .second .tag = ap (λ x. x .tag) e in
-    let z : length (f .body) ≡ 8 = ap (λ x. length (x .body)) e ∙ m .eight-b in
-    is-taken (g .tag) (f .tag) (said f) (omega arith) (omega arith) (sym w ∙ z) (omega arith)
+    let z : length (f .body) ≡ 8 = rw e (m .eight-b) in
+    is-taken (g .tag) (f .tag) (said f) (omega arith) (omega arith) (omega arith) (omega arith)
 forms-taken (g ∷ h ∷ fs) f ks q w m = absurd (too-many (g ∷ h ∷ fs) (f ∷ ks) (m .first) (m .second) (m .two) (omega arith))
 
 forms-end : (before : List Field) (q : Asked) → Forms (onto before []) q → finished (seenOf before) ≡ value q

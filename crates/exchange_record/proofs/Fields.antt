@@ -4,14 +4,13 @@ use mathlib.Core.Bool.{Bool, true, false, cond, _&&_}
 use mathlib.Core.Logic.{inl, inr}
 use mathlib.Core.List.{List, [], _∷_, _++_}
 use Prim.Native.Nat.{ℕ, suc, _+_, _-_, _≤_, _<_}
-use native.Mathlib.Decide.{decLe}
 use native.Mathlib.Omega.{arith}
 use lib.Dec.{leb, ltb, eqb}
-use lib.ListN.{length, getD, take, drop, length-drop, take-append-drop, drop-of-length-le}
+use lib.ListN.{length, getD, take, drop, length-drop, take-append-drop}
 use lib.Seq.{drop-cons, length-take-le, drop-drop}
 use borrow.Author.Tests.{eqb-true, eq-eqb, lt-leb, le-leb, lt-ltb}
 use Rattle.exchange_record.specs.Grammar.{Field, spelt, word, Cut, tag-alone, half-a-length, short, Course, skipped, taken, stopped, fateOf}
-use Rattle.exchange_record.specs.Walk.{sizeAt, lastOf, added, FieldAt, Passed, Stops}
+use Rattle.exchange_record.specs.Walk.{twoAt, sizeAt, lastOf, added, FieldAt, Passed, Stops}
 use Rattle.exchange_record.specs.declared.Cursor.{Cursor}
 use Rattle.exchange_record.specs.declared.Seen.{Seen}
 
@@ -76,23 +75,19 @@ three s i h =
     ∙ ap (λ (l : List ℕ). getD s i 0 ∷ l) (drop-cons s (suc i) 0 (omega arith)
     ∙ ap (λ (l : List ℕ). getD s (suc i) 0 ∷ l) (drop-cons s (suc (suc i)) 0 (omega arith))))
 
-one-left : (s : List ℕ) (i : ℕ) → i + 1 ≡ length s → Cut (drop i s)
-one-left s i h =
-    let d : drop (suc i) s ≡ [] = drop-of-length-le s {i = suc i} (omega arith) in
-    rw (drop-cons s i 0 (omega arith), d) (tag-alone (getD s i 0))
+-- the length of the field there
+pub sized : (s : List ℕ) (i n : ℕ) → n ≡ twoAt s (i + 1) → n ≡ sizeAt s i
+sized s i n e = let h : i + 1 + 1 ≡ i + 2 = omega arith in rw h at e
 
-two-left : (s : List ℕ) (i : ℕ) → i + 2 ≡ length s → Cut (drop i s)
-two-left s i h =
-    let d : drop (suc (suc i)) s ≡ [] = drop-of-length-le s {i = suc (suc i)} (omega arith) in
-    rw (drop-cons s i 0 (omega arith), drop-cons s (suc i) 0 (omega arith), d) (half-a-length (getD s i 0) (getD s (suc i) 0))
+too-few : (l : List ℕ) → 0 < length l → length l < 3 → Cut l
+too-few [] a b = absurd (omega arith)
+too-few (t ∷ []) a b = tag-alone t
+too-few (t ∷ h ∷ []) a b = half-a-length t h
+too-few (t ∷ h ∷ n ∷ l) a b = absurd (omega arith)
 
 -- a header that runs past the end
 pub cut-header : (s : List ℕ) (i : ℕ) → i < length s → length s - i < 3 → Cut (drop i s)
-cut-header s i h k = go (decLe (i + 2) (length s))
-  where
-    go : Dec (i + 2 ≤ length s) → Cut (drop i s)
-    go (yes l) = two-left s i (omega arith)
-    go (no m) = one-left s i (omega (arith, m))
+cut-header s i h k = too-few (drop i s) (rw length-drop (omega arith)) (rw length-drop k)
 
 -- bytes that run past the end
 pub cut-body : (s : List ℕ) (i n : ℕ) → n ≡ sizeAt s i → 3 ≤ length s - i → length s - i - 3 < n → Cut (drop i s)

@@ -12,12 +12,13 @@ use Rattle.exchange_record.specs.declared.Pair.{Pair}
 use Rattle.exchange_record.specs.Grammar.{Tagged, tagged, pairs, pairIn, pairOf}
 use Rattle.exchange_record.specs.Walk.{askedBy}
 
--- the answer for two tags that are i and j
-pub asked-at : (i j a b x y : ℕ) → j < 256 → y < 256 → 256 * x + y ≡ 256 * i + j → askedBy i a j b ≡ askedBy x a y b
-asked-at i j a b x y h k e =
+-- the answer for two tags that are those of a pair
+pub asked-at : (i j : ℕ) (p : Pair) (a b x y : ℕ) → pairOf i j ≡ value p → j < 256 → y < 256 → 256 * x + y ≡ 256 * i + j → value (record { pair = p; a = a; b = b }) ≡ askedBy x a y b
+unfolding askedBy
+asked-at i j p a b x y r h k e =
     let ex : x ≡ i = omega arith in
     let ey : y ≡ j = omega arith in
-    rw (ex, ey)
+    rw (ex, ey, r)
 
 -- a row that is not the tags' row
 other : (x y i j : ℕ) → (256 * x + y ≡ 256 * i + j → ⊥) → (eqb x i && eqb y j) ≡ false

@@ -13,12 +13,7 @@ use Rattle.exchange_record.specs.declared.ReadAnswer.{ReadAnswer}
 use Rattle.exchange_record.specs.declared.ReadAnswer.the-variants as answer
 use Rattle.exchange_record.specs.Reading.{readNumber, paperRead}
 use Rattle.exchange_record.proofs.Exchange.{one-outcome}
-use Rattle.exchange_record.proofs.reader.read_number.Kinds as read-number-kinds
-use Rattle.exchange_record.proofs.reader.read_number.Reads as read-number
-use Rattle.exchange_record.proofs.reader.pair_byte.Kinds as pair-byte-kinds
-use Rattle.exchange_record.proofs.reader.pair_byte.Reads as pair-byte
-use Rattle.exchange_record.proofs.reader.read.Kinds as read-kinds
-use Rattle.exchange_record.proofs.reader.read.Reads as read
+use Rattle.exchange_record.proofs as own
 
 pub readKind : ℕ → ReadRefusal
 readKind n = cond (eqb n 10) PastEnd (cond (eqb n 11) UnknownTag (cond (eqb n 12) WrongLength (cond (eqb n 13) OutOfOrder NotAPair)))
@@ -43,11 +38,11 @@ read-back (answer.Refused k) = ap answer.Refused (read-kind k)
 pub same-read : (o : Outcome Asked) (r s : ReadAnswer) → paperRead r ≡ o → paperRead s ≡ o → r ≡ s
 same-read = same paperRead readOf read-back
 
-pub read-number-one : One 0 read-number-kinds.ps read-number-kinds.r read-number.Post
+pub read-number-one : One 0 own.reader.read_number.Kinds.ps own.reader.read_number.Kinds.r own.reader.read_number.Reads.Post
 read-number-one κs a e x y p q = p ∙ sym q
 
-pub pair-byte-one : One 0 pair-byte-kinds.ps pair-byte-kinds.r pair-byte.Post
+pub pair-byte-one : One 0 own.reader.pair_byte.Kinds.ps own.reader.pair_byte.Kinds.r own.reader.pair_byte.Reads.Post
 pair-byte-one κs a e x y p q = p ∙ sym q
 
-pub read-one : One 1 read-kinds.ps read-kinds.r read.Post
+pub read-one : One 1 own.reader.read.Kinds.ps own.reader.read.Kinds.r own.reader.read.Reads.Post
 read-one κs a e x y p q = same-read (paperRead x) x y refl (sym (one-outcome _ (paperRead x) (paperRead y) p q))

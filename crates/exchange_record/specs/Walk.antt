@@ -3,7 +3,7 @@ use mathlib.Core.Path.{_≡_}
 use mathlib.Core.Bool.{cond, _&&_}
 use mathlib.Core.Logic.{_⊎_}
 use mathlib.Core.List.{List, [], _∷_, _++_}
-use Prim.Native.Nat.{ℕ, _+_, _*_, _≤_, _<_}
+use Prim.Native.Nat.{ℕ, _+_, _*_, _^_, _≤_, _<_}
 use lib.Dec.{leb, ltb, eqb}
 use lib.ListN.{length, getD, drop}
 use Rattle.common.specs.Outcome.{Outcome, value, refused, then}
@@ -18,9 +18,12 @@ use Rattle.exchange_record.specs.declared.Fate.the-variants as fate
 use Rattle.exchange_record.specs.declared.Step.{Step}
 use Rattle.exchange_record.specs.declared.Step.the-variants as step
 
--- four bytes, the high one first
+-- two bytes, the high one first, and four
+abbrev pub twoAt : List ℕ → ℕ → ℕ
+twoAt s i = 256 * getD s i 0 + getD s (i + 1) 0
+
 abbrev pub halfAt : List ℕ → ℕ → ℕ
-halfAt s i = 256 * (256 * (256 * getD s i 0 + getD s (i + 1) 0) + getD s (i + 2) 0) + getD s (i + 3) 0
+halfAt s i = 2 ^ 16 * twoAt s i + twoAt s (i + 2)
 
 abbrev pub sizeAt : List ℕ → ℕ → ℕ
 sizeAt s i = 256 * getD s (i + 1) 0 + getD s (i + 2) 0

@@ -4,8 +4,8 @@ use crate::Fate;
 use crate::ReadRefusal;
 use crate::Seen;
 use crate::Step;
+use crate::number::two_at;
 use crate::number::word_at;
-use buffer::wide;
 ghost use mathlib.Core.Path.{_≡_};
 ghost use mathlib.Core.Bool.{_&&_};
 ghost use lib.Dec.{ltb, leb};
@@ -76,12 +76,19 @@ fn judge(last: u8, tag: u8, size: usize) -> Fate
     judge_low(last, tag, size)
 }
 
-// The length of a field, the high byte first.
-fn size_at(s: &[u8], at: usize) -> usize
-    requires { ⌜ at + 3 ≤ length (now s) ⌝ }
-    ensures { λ r. ⌜ (r ≡ sizeAt (now (s .entry)) at) × (r < 65536) ⌝ }
+// A whole field at the cursor: it is skipped, taken, or stops the reader.
+fn pass(s: &[u8], c: Cursor, size: usize) -> Step
+    requires { ⌜ (c .at + 3 + size ≤ length (now s)) × (size ≡ sizeAt (now s) (c .at)) ⌝ }
+    ensures { λ r. ⌜ Stepped (now (s .entry)) c r ⌝ }
 {
-    (256 * wide(s[at + 1]) + wide(s[at + 2])) as usize
+    let at = c.at;
+    let seen = c.seen;
+    let tag = s[at];
+    match judge(last_of(seen), tag, size) {
+        Fate::Skipped => Step::Next(cursor(at + 3 + size, seen)),
+        Fate::Taken => Step::Next(cursor(at + 3 + size, add(seen, tag, word_at(s, at + 3)))),
+        Fate::Stopped(k) => Step::Stopped(k),
+    }
 }
 
 // The field at the cursor. A length is held against the bytes that are left before it is gone by.
@@ -90,19 +97,13 @@ pub fn step(s: &[u8], c: Cursor) -> Step
     ensures { λ r. ⌜ Stepped (now (s .entry)) c r ⌝ }
 {
     let at = c.at;
-    let seen = c.seen;
     let left = s.len() - at;
     if left < 3 {
         return Step::Stopped(ReadRefusal::PastEnd);
     }
-    let size = size_at(s, at);
+    let size = two_at(s, at + 1);
     if left - 3 < size {
         return Step::Stopped(ReadRefusal::PastEnd);
     }
-    let tag = s[at];
-    match judge(last_of(seen), tag, size) {
-        Fate::Skipped => Step::Next(cursor(at + 3 + size, seen)),
-        Fate::Taken => Step::Next(cursor(at + 3 + size, add(seen, tag, word_at(s, at + 3)))),
-        Fate::Stopped(k) => Step::Stopped(k),
-    }
+    pass(s, c, size)
 }

@@ -36,25 +36,22 @@ pub fn pair_byte(pair: Pair) -> u8
     }
 }
 
-fn value(pair: Pair, a: u64, b: u64) -> ReadAnswer
-    ensures { λ r. ⌜ r ≡ ReadAnswer.Value (record { pair = pair; a = a; b = b }) ⌝ }
-{
-    ReadAnswer::Value(Asked { pair, a, b })
-}
-
 // The pair of two tags.
 fn paired(x: u8, a: u64, y: u8, b: u64) -> ReadAnswer
     ensures { λ r. ⌜ paperRead r ≡ askedBy x a y b ⌝ }
 {
     let tags = 256 * wide(x) + wide(y);
-    match tags {
-        0x0102 => value(Pair::PT, a, b),
-        0x0203 => value(Pair::TD, a, b),
-        0x0104 => value(Pair::PH, a, b),
-        0x0105 => value(Pair::PS, a, b),
-        0x0405 => value(Pair::HS, a, b),
-        _ => ReadAnswer::Refused(ReadRefusal::NotAPair),
-    }
+    let pair = match tags {
+        0x0102 => Pair::PT,
+        0x0203 => Pair::TD,
+        0x0104 => Pair::PH,
+        0x0105 => Pair::PS,
+        0x0405 => Pair::HS,
+        _ => {
+            return ReadAnswer::Refused(ReadRefusal::NotAPair);
+        }
+    };
+    ReadAnswer::Value(Asked { pair, a, b })
 }
 
 // At the end of the record: exactly two known tags that are a pair.

@@ -13,17 +13,15 @@ use Rattle.common.specs.Answer.{numberOf}
 use Rattle.common.proofs.Same.{One, same, kindOf, kind-number}
 use Rattle.common.specs.declared.Refusal.{Refusal}
 use Rattle.common.specs.declared.Refusal.the-variants.{NotFinite, First, Second, State, Step, Property, Columns, Border, Unfound}
-use Rattle.exchange_writer.specs.Written.{paperWrite, writeNumber}
+use Rattle.exchange_record.specs.declared.Pair.{Pair}
+use Rattle.exchange_writer.specs.Written.{paperWrite, writeNumber, paperPair}
 use Rattle.exchange_writer.specs.declared.WriteRefusal.{WriteRefusal}
 use Rattle.exchange_writer.specs.declared.WriteRefusal.the-variants.{Entry, Room}
 use Rattle.exchange_writer.specs.declared.WriteVerdict.{WriteVerdict}
 use Rattle.exchange_writer.specs.declared.WriteVerdict.the-variants as verdict
-use Rattle.exchange_writer.proofs.write.Kinds as write-kinds
-use Rattle.exchange_writer.proofs.write.Reads as write
-use Rattle.exchange_writer.proofs.write_by.Kinds as write-by-kinds
-use Rattle.exchange_writer.proofs.write_by.Reads as write-by
-use Rattle.exchange_writer.proofs.write_number.Kinds as write-number-kinds
-use Rattle.exchange_writer.proofs.write_number.Reads as write-number
+use Rattle.exchange_writer.specs.declared.PairAnswer.{PairAnswer}
+use Rattle.exchange_writer.specs.declared.PairAnswer.the-variants as named
+use Rattle.exchange_writer.proofs as own
 
 refusalOf : ℕ → WriteRefusal
 refusalOf n = cond (eqb n 16) Room (Entry (kindOf n))
@@ -54,19 +52,31 @@ unfolding verdictOf
 verdict-back verdict.Accepted = refl
 verdict-back (verdict.Refused k) = ap verdict.Refused (refusal-back k)
 
-pub write-one : (κs : Lfts 1) (a : Dens κs write-kinds.ps) (d e : AtExit (endedOf 1 write-kinds.ps write-kinds.r) κs) (x y : resT write-kinds.r κs .Denot) →
-    write.Post κs a x d → write.Post κs a y e → (x ≡ y) × (now (d .1 .0) ≡ now (e .1 .0))
-write-one κs a d e x y p q =
-    let same-pair = p ∙ sym q in (
-      same paperWrite verdictOf verdict-back (paperWrite y) x y (ap (λ (z : Outcome Unit × List ℕ). z .0) same-pair) refl,
-      ap (λ (z : Outcome Unit × List ℕ). z .1) same-pair,
-    )
+pub same-written : (z : Outcome Unit × List ℕ) (r s : WriteVerdict) (l m : List ℕ) → (paperWrite r, l) ≡ z → (paperWrite s, m) ≡ z → (r ≡ s) × (l ≡ m)
+same-written z r s l m p q =
+    (same paperWrite verdictOf verdict-back (z .0) r s (ap (λ (x : Outcome Unit × List ℕ). x .0) p) (ap (λ (x : Outcome Unit × List ℕ). x .0) q), ap (λ (x : Outcome Unit × List ℕ). x .1) (p ∙ sym q))
 
-pub write-number-one : One 0 write-number-kinds.ps write-number-kinds.r write-number.Post
+pub write-if-one : (κs : Lfts 1) (a : Dens κs own.write_if.Kinds.ps) (d e : AtExit (endedOf 1 own.write_if.Kinds.ps own.write_if.Kinds.r) κs) (x y : resT own.write_if.Kinds.r κs .Denot) →
+    own.write_if.Reads.Post κs a x d → own.write_if.Reads.Post κs a y e → (x ≡ y) × (now (d .1 .1 .0) ≡ now (e .1 .1 .0))
+write-if-one κs a d e x y p q = same-written _ x y _ _ p q
+
+pub write-number-one : One 0 own.write_number.Kinds.ps own.write_number.Kinds.r own.write_number.Reads.Post
 write-number-one κs a e x y p q = p ∙ sym q
 
-pub write-by-one : (κs : Lfts 1) (a : Dens κs write-by-kinds.ps) (d e : AtExit (endedOf 1 write-by-kinds.ps write-by-kinds.r) κs) (x y : resT write-by-kinds.r κs .Denot) →
-    write-by.Post κs a x d → write-by.Post κs a y e → (x ≡ y) × (now (d .1 .1 .1 .0) ≡ now (e .1 .1 .1 .0))
-write-by-one κs a d e x y p q =
-    let both = p ∙ sym q in
-    (ap (λ (z : ℕ × List ℕ). z .0) both, ap (λ (z : ℕ × List ℕ). z .1) both)
+pub point-at-one : One 0 own.points.point_at.Kinds.ps own.points.point_at.Kinds.r own.points.point_at.Reads.Post
+point-at-one κs a e x y p q = p ∙ sym q
+
+pub point-of-one : One 0 own.points.point_of.Kinds.ps own.points.point_of.Kinds.r own.points.point_of.Reads.Post
+point-of-one κs a e x y p q = p ∙ sym q
+
+namedOf : Outcome Pair → PairAnswer
+namedOf (value p) = named.Value p
+namedOf (refused n) = named.Unknown
+
+named-back : (r : PairAnswer) → namedOf (paperPair r) ≡ r
+unfolding namedOf
+named-back (named.Value p) = refl
+named-back named.Unknown = refl
+
+pub pair-by-one : One 0 own.pair_by.Kinds.ps own.pair_by.Kinds.r own.pair_by.Reads.Post
+pair-by-one κs a e x y p q = same paperPair namedOf named-back _ x y p q

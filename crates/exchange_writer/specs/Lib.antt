@@ -1,1 +1,2 @@
+pub mod Point
 pub mod Written

@@ -1,5 +1,5 @@
--- To believe: the record of a point, in the grammar that the reader goes by, and where it is written: the entry's own refusals, then 16, then 22 bytes at the
--- front and every other byte as found. Assumes nothing: these are definitions.
+-- To believe: the record of a point, in the grammar that the reader goes by, and where it is written, by its entry's verdict: that refusal, then 16, then 22
+-- bytes at the front and every other byte as found; and the pair that a byte names. Assumes nothing: these are definitions.
 use mathlib.Core.Bool.{cond}
 use mathlib.Core.List.{List, [], _∷_}
 use Prim.Native.Nat.{ℕ, _/_, _%_, _^_}
@@ -7,16 +7,14 @@ use lib.Dec.{eqb, ltb}
 use lib.ListN.{length}
 use lib.Seq.{sets}
 use lib.Ieee.{Float, binary64, toBits}
-use Rattle.common.specs.Outcome.{Outcome, value, refused, then, numberIn}
+use Rattle.common.specs.Outcome.{Outcome, value, refused}
 use Rattle.common.specs.Answer.{numberOf}
-use Rattle.record.specs.Record.{report}
 use Rattle.exchange_record.specs.declared.Asked.{Asked}
 use Rattle.exchange_record.specs.declared.Pair.{Pair}
 use Rattle.exchange_record.specs.declared.Pair.the-variants as pair
 use Rattle.exchange_record.specs.Grammar.{Field, encoded}
-use Rattle.exchange_entry.specs.declared.Point.{Point}
-use Rattle.exchange_entry.specs.declared.Point.the-variants as at
-use Rattle.exchange_entry.specs.Call.{pointAt, entryRule}
+use Rattle.exchange_writer.specs.declared.Point.{Point}
+use Rattle.exchange_writer.specs.declared.Point.the-variants as at
 use Rattle.exchange_writer.specs.declared.WriteRefusal.{WriteRefusal}
 use Rattle.exchange_writer.specs.declared.WriteRefusal.the-variants.{Entry, Room}
 use Rattle.exchange_writer.specs.declared.WriteVerdict.{WriteVerdict}
@@ -52,9 +50,6 @@ abbrev pub after : Outcome Unit → Point → List ℕ → Outcome Unit × List 
 after (value u) x found = roomRule x found
 after (refused k) x found = (refused k, found)
 
-abbrev pub writeRule : Point → List ℕ → Outcome Unit × List ℕ
-writeRule x found = after (report (entryRule x) .0) x found
-
 abbrev pub writeNumber : WriteRefusal → ℕ
 writeNumber (Entry k) = numberOf k
 writeNumber Room = 16
@@ -71,33 +66,13 @@ askedFor (at.PH p h) = record { pair = pair.PH; a = toBits binary64 (p .0); b = 
 askedFor (at.PS p s) = record { pair = pair.PS; a = toBits binary64 (p .0); b = toBits binary64 (s .0) }
 askedFor (at.HS h s) = record { pair = pair.HS; a = toBits binary64 (h .0); b = toBits binary64 (s .0) }
 
--- ---- by the byte of a pair, for callers that have no units
-
--- 255 where no pair has the byte
+-- the pair that a byte names, for callers that have no units: 255 where no pair has the byte
 abbrev pub pairBy : ℕ → Outcome Pair
 pairBy n =
     cond (eqb n 1) (value pair.PT)
     (cond (eqb n 2) (value pair.TD)
     (cond (eqb n 3) (value pair.PH) (cond (eqb n 4) (value pair.PS) (cond (eqb n 5) (value pair.HS) (refused 255)))))
 
-abbrev pub numbered : Outcome Unit × List ℕ → ℕ × List ℕ
-numbered z = (numberIn (z .0), z .1)
-
-abbrev pub writtenFor : Outcome Pair → Float → Float → List ℕ → ℕ × List ℕ
-writtenFor (value p) a b found = numbered (writeRule (pointAt p a b) found)
-writtenFor (refused k) a b found = (k, found)
-
-abbrev pub writtenBy : ℕ → Float → Float → List ℕ → ℕ × List ℕ
-writtenBy n = writtenFor (pairBy n)
-
 abbrev pub paperPair : PairAnswer → Outcome Pair
 paperPair (named.Value p) = value p
 paperPair named.Unknown = refused 255
-
--- ---- Helps proofs only: whether a point is written, by its entry's verdict and the room
-
-abbrev pub inRoom : ℕ → Outcome Unit
-inRoom n = cond (ltb n 22) (refused 16) (value tt)
-
-abbrev pub judgedIn : ℕ → Outcome Unit → Outcome Unit
-judgedIn n o = then o (λ _. inRoom n)

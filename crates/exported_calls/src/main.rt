@@ -118,14 +118,50 @@ fn call_searched(entry: u8, a: f64, b: f64) -> Reply {
     }
 }
 
+fn length_at(row: &[u8], at: usize) -> usize
+    ensures { λ r. ⌜ r ≤ 5 ⌝ }
+{
+    least(byte_at(row, at) as usize, 5)
+}
+
+// What a column run wrote: its refusal, and the five cells of each lent column as they are afterwards.
+struct Columns {
+    refusal: u8,
+    letters: [u8; 5],
+    densities: [f64; 5],
+    refusals: [u8; 5],
+}
+
+// The column run on given p and T, with columns of the lengths that bytes 3 to 5 of a row say, of letters, densities and refusals.
+fn call_columns(ps: &[f64], ts: &[f64], row: &[u8]) -> Columns {
+    let mut letters = [FOUND_BYTE; 5];
+    let mut densities = [FOUND; 5];
+    let mut refusals = [FOUND_BYTE; 5];
+    let l = length_at(row, 3);
+    let d = length_at(row, 4);
+    let r = length_at(row, 5);
+    let refusal = region3_c::r3_columns(
+        ps,
+        ts,
+        &mut letters[..l],
+        &mut densities[..d],
+        &mut refusals[..r],
+    );
+    Columns {
+        refusal,
+        letters,
+        densities,
+        refusals,
+    }
+}
+
 // One row of the column run. A call that is refused as a whole has its own number, which no row has.
 fn call_column(a: f64, b: f64) -> Reply {
-    let ps = [a; 1];
-    let ts = [b; 1];
-    let mut letters = [FOUND_BYTE; 1];
-    let mut densities = [FOUND; 1];
-    let mut refusals = [FOUND_BYTE; 1];
-    let verdict = region3_c::r3_columns(&ps, &ts, &mut letters, &mut densities, &mut refusals);
+    let c = call_columns(&[a; 1], &[b; 1], &[1; 6]);
+    let verdict = c.refusal;
+    let letters = c.letters;
+    let densities = c.densities;
+    let refusals = c.refusals;
     Reply {
         refusal: if verdict == 0 { refusals[0] } else { verdict },
         letter: letters[0],
@@ -137,42 +173,30 @@ fn call_column(a: f64, b: f64) -> Reply {
 fn call(entry: u8, n: i32, a: f64, b: f64) -> Reply {
     match entry {
         8 => call_letter(a, b),
-        20 | 21 | 22 | 23 | 24 => call_record(entry, a, b),
-        26 | 27 | 28 => call_searched(entry, a, b),
+        20..=24 => call_record(entry, a, b),
+        26..=28 => call_searched(entry, a, b),
         30 => call_column(a, b),
         34 => call_cp_w(a, b),
-        35 | 36 | 37 => call_found(entry, a, b),
+        35..=37 => call_found(entry, a, b),
         _ => call_number(entry, n, a, b),
     }
 }
 
-fn length_at(row: &[u8], at: usize) -> usize
-    ensures { λ r. ⌜ r ≤ 5 ⌝ }
-{
-    least(byte_at(row, at) as usize, 5)
-}
-
-// The column run on columns of the lengths that bytes 1 to 5 of a row say, of p, T, letters, densities and refusals: its refusal, and the five cells
-// of each lent column as they are afterwards.
-fn columns_bytes(row: &[u8]) -> [u8; 88] {
-    let mut out = [0u8; 88];
+// The column run on columns of the lengths that bytes 1 to 5 of a row say, the first two of its p and its T.
+fn call_row(row: &[u8]) -> Columns {
     let ps = [float_at(row, 8); 5];
     let ts = [float_at(row, 16); 5];
-    let mut letters = [FOUND_BYTE; 5];
-    let mut densities = [FOUND; 5];
-    let mut refusals = [FOUND_BYTE; 5];
     let p = length_at(row, 1);
     let t = length_at(row, 2);
-    let l = length_at(row, 3);
-    let d = length_at(row, 4);
-    let r = length_at(row, 5);
-    out[0] = region3_c::r3_columns(
-        &ps[..p],
-        &ts[..t],
-        &mut letters[..l],
-        &mut densities[..d],
-        &mut refusals[..r],
-    );
+    call_columns(&ps[..p], &ts[..t], row)
+}
+
+fn columns_bytes(c: Columns) -> [u8; 88] {
+    let mut out = [0u8; 88];
+    let letters = c.letters;
+    let densities = c.densities;
+    let refusals = c.refusals;
+    out[0] = c.refusal;
     let mut k = 0;
     while k < 5 {
         out[8 + k] = letters[k];
@@ -186,7 +210,7 @@ fn columns_bytes(row: &[u8]) -> [u8; 88] {
 fn reply_to(row: &[u8]) -> [u8; 88] {
     let entry = byte_at(row, 0);
     if entry == 31 {
-        return columns_bytes(row);
+        return columns_bytes(call_row(row));
     }
     let mut out = [0u8; 88];
     put_reply(
@@ -197,6 +221,18 @@ fn reply_to(row: &[u8]) -> [u8; 88] {
     out
 }
 
+// One turn: a row and its reply. Answers whether to go on.
+fn turn(done: u64) -> bool {
+    let mut row = [0u8; 24];
+    let reading = stdio::read_until_full(b"exported_calls: standard input", &mut row);
+    let have = reading.have;
+    let stop = reading.stop;
+    if !pages::go_on(b"exported_calls: rows ", stop, done, have as u64) {
+        return false;
+    }
+    stdio::send(b"exported_calls: writing", STDOUT_FILENO, &reply_to(&row))
+}
+
 fn main() {
     if stdio::from_terminal(
         b"exported_calls: what each exported call writes: reads rows of 24 bytes (entry, number, two f64) from a file or a pipe, not from a terminal\n",
@@ -205,14 +241,7 @@ fn main() {
     }
     let mut done: u64 = 0;
     while done < MOST {
-        let mut row = [0u8; 24];
-        let reading = stdio::read_until_full(b"exported_calls: standard input", &mut row);
-        let have = reading.have;
-        let stop = reading.stop;
-        if !pages::go_on(b"exported_calls: rows ", stop, done, have as u64) {
-            return;
-        }
-        if !stdio::send(b"exported_calls: writing", STDOUT_FILENO, &reply_to(&row)) {
+        if !turn(done) {
             return;
         }
         done += 1;

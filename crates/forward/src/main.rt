@@ -3,7 +3,7 @@
 use buffer::byte_at;
 use buffer::float_at;
 use common::least;
-use exchange_writer::write_by;
+use exchange_entry::write_by;
 use libc::STDOUT_FILENO;
 
 // The loop ends by this number of rows, which no run reaches.
@@ -34,6 +34,18 @@ fn reply(row: &[u8]) -> [u8; 48] {
     out
 }
 
+// One turn: a row and its reply. Answers whether to go on.
+fn turn(done: u64) -> bool {
+    let mut row = [0u8; 24];
+    let reading = stdio::read_until_full(b"forward: standard input", &mut row);
+    let have = reading.have;
+    let stop = reading.stop;
+    if !pages::go_on(b"forward: rows ", stop, done, have as u64) {
+        return false;
+    }
+    stdio::send(b"forward: writing", STDOUT_FILENO, &reply(&row))
+}
+
 fn main() {
     if stdio::from_terminal(
         b"forward: the exchange record of each row: reads rows of 24 bytes (pair, room, fill byte, two f64) from a file or a pipe, not from a terminal\n",
@@ -42,14 +54,7 @@ fn main() {
     }
     let mut done: u64 = 0;
     while done < MOST {
-        let mut row = [0u8; 24];
-        let reading = stdio::read_until_full(b"forward: standard input", &mut row);
-        let have = reading.have;
-        let stop = reading.stop;
-        if !pages::go_on(b"forward: rows ", stop, done, have as u64) {
-            return;
-        }
-        if !stdio::send(b"forward: writing", STDOUT_FILENO, &reply(&row)) {
+        if !turn(done) {
             return;
         }
         done += 1;

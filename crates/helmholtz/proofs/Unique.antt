@@ -2,48 +2,34 @@
 use mathlib.Core.Path.{sym, _∙_}
 use Rattle.common.proofs.Same.{One}
 use Rattle.helmholtz.proofs.Numbers.{one-number}
-use Rattle.helmholtz.proofs.region3_hfe.finite_or_nan.Kinds as finite-or-nan-kinds
-use Rattle.helmholtz.proofs.region3_hfe.finite_or_nan.Reads as finite-or-nan
-use Rattle.helmholtz.proofs.region3_hfe.phi_reg3.Kinds as number
-use Rattle.helmholtz.proofs.region3_hfe.phi_reg3.Reads as phi-reg3
-use Rattle.helmholtz.proofs.region3_hfe.phi_delta_reg3.Reads as phi-delta-reg3
-use Rattle.helmholtz.proofs.region3_hfe.phi_deltadelta_reg3.Reads as phi-deltadelta-reg3
-use Rattle.helmholtz.proofs.region3_hfe.phi_tau_reg3.Reads as phi-tau-reg3
-use Rattle.helmholtz.proofs.region3_hfe.phi_tautau_reg3.Reads as phi-tautau-reg3
-use Rattle.helmholtz.proofs.region3_hfe.phi_deltatau_reg3.Reads as phi-deltatau-reg3
-use Rattle.helmholtz.proofs.region3_hfe.polys_0_j_powi_reg3.Kinds as polys-0-j-powi-reg3-kinds
-use Rattle.helmholtz.proofs.region3_hfe.polys_0_j_powi_reg3.Reads as polys-0-j-powi-reg3
-use Rattle.helmholtz.proofs.region3_hfe.polys_i_j_powi_reg3.Kinds as polys-i-j-powi-reg3-kinds
-use Rattle.helmholtz.proofs.region3_hfe.polys_i_j_powi_reg3.Reads as polys-i-j-powi-reg3
-use Rattle.helmholtz.proofs.region3_hfe.polys_i_ii_ij_jj_powi_reg3.Kinds as polys-i-ii-ij-jj-powi-reg3-kinds
-use Rattle.helmholtz.proofs.region3_hfe.polys_i_ii_ij_jj_powi_reg3.Reads as polys-i-ii-ij-jj-powi-reg3
+use Rattle.helmholtz.proofs as own
 
-pub finite-or-nan-one : One 0 finite-or-nan-kinds.ps finite-or-nan-kinds.r finite-or-nan.Post
+pub finite-or-nan-one : One 0 own.region3_hfe.finite_or_nan.Kinds.ps own.region3_hfe.finite_or_nan.Kinds.r own.region3_hfe.finite_or_nan.Reads.Post
 finite-or-nan-one κs a e x y p q = p ∙ sym q
 
-pub phi-reg3-one : One 0 number.ps number.r phi-reg3.Post
+pub phi-reg3-one : One 0 own.region3_hfe.phi_reg3.Kinds.ps own.region3_hfe.phi_reg3.Kinds.r own.region3_hfe.phi_reg3.Reads.Post
 phi-reg3-one κs a e x y p q = one-number p q
 
-pub phi-delta-reg3-one : One 0 number.ps number.r phi-delta-reg3.Post
+pub phi-delta-reg3-one : One 0 own.region3_hfe.phi_reg3.Kinds.ps own.region3_hfe.phi_reg3.Kinds.r own.region3_hfe.phi_delta_reg3.Reads.Post
 phi-delta-reg3-one κs a e x y p q = one-number p q
 
-pub phi-deltadelta-reg3-one : One 0 number.ps number.r phi-deltadelta-reg3.Post
+pub phi-deltadelta-reg3-one : One 0 own.region3_hfe.phi_reg3.Kinds.ps own.region3_hfe.phi_reg3.Kinds.r own.region3_hfe.phi_deltadelta_reg3.Reads.Post
 phi-deltadelta-reg3-one κs a e x y p q = one-number p q
 
-pub phi-tau-reg3-one : One 0 number.ps number.r phi-tau-reg3.Post
+pub phi-tau-reg3-one : One 0 own.region3_hfe.phi_reg3.Kinds.ps own.region3_hfe.phi_reg3.Kinds.r own.region3_hfe.phi_tau_reg3.Reads.Post
 phi-tau-reg3-one κs a e x y p q = one-number p q
 
-pub phi-tautau-reg3-one : One 0 number.ps number.r phi-tautau-reg3.Post
+pub phi-tautau-reg3-one : One 0 own.region3_hfe.phi_reg3.Kinds.ps own.region3_hfe.phi_reg3.Kinds.r own.region3_hfe.phi_tautau_reg3.Reads.Post
 phi-tautau-reg3-one κs a e x y p q = one-number p q
 
-pub phi-deltatau-reg3-one : One 0 number.ps number.r phi-deltatau-reg3.Post
+pub phi-deltatau-reg3-one : One 0 own.region3_hfe.phi_reg3.Kinds.ps own.region3_hfe.phi_reg3.Kinds.r own.region3_hfe.phi_deltatau_reg3.Reads.Post
 phi-deltatau-reg3-one κs a e x y p q = one-number p q
 
-pub polys-0-j-powi-reg3-one : One 0 polys-0-j-powi-reg3-kinds.ps polys-0-j-powi-reg3-kinds.r polys-0-j-powi-reg3.Post
+pub polys-0-j-powi-reg3-one : One 0 own.region3_hfe.polys_0_j_powi_reg3.Kinds.ps own.region3_hfe.polys_0_j_powi_reg3.Kinds.r own.region3_hfe.polys_0_j_powi_reg3.Reads.Post
 polys-0-j-powi-reg3-one κs a e x y p q = rw (p .0 .is, p .1 .is, q .0 .is, q .1 .is)
 
-pub polys-i-j-powi-reg3-one : One 0 polys-i-j-powi-reg3-kinds.ps polys-i-j-powi-reg3-kinds.r polys-i-j-powi-reg3.Post
+pub polys-i-j-powi-reg3-one : One 0 own.region3_hfe.polys_i_j_powi_reg3.Kinds.ps own.region3_hfe.polys_i_j_powi_reg3.Kinds.r own.region3_hfe.polys_i_j_powi_reg3.Reads.Post
 polys-i-j-powi-reg3-one κs a e x y p q = rw (p .0 .is, p .1 .is, q .0 .is, q .1 .is)
 
-pub polys-i-ii-ij-jj-powi-reg3-one : One 0 polys-i-ii-ij-jj-powi-reg3-kinds.ps polys-i-ii-ij-jj-powi-reg3-kinds.r polys-i-ii-ij-jj-powi-reg3.Post
+pub polys-i-ii-ij-jj-powi-reg3-one : One 0 own.region3_hfe.polys_i_ii_ij_jj_powi_reg3.Kinds.ps own.region3_hfe.polys_i_ii_ij_jj_powi_reg3.Kinds.r own.region3_hfe.polys_i_ii_ij_jj_powi_reg3.Reads.Post
 polys-i-ii-ij-jj-powi-reg3-one κs a e x y p q = rw (p .0 .is, p .1 .is, p .2 .is, p .3 .is, q .0 .is, q .1 .is, q .2 .is, q .3 .is)

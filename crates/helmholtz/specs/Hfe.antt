@@ -3,7 +3,7 @@
 use Rattle.common.specs.Formula.{_⊕_, _⊗_, _⊘_, minusOf}
 use lib.Ieee.{Float}
 use Rattle.common.specs.Outcome.{Outcome, value, then}
-use Rattle.rules.specs.Formula.{logarithmOf}
+use Rattle.inverses.specs.Formula.{logarithmOf}
 use Rattle.algo.specs.declared.Order.{Order}
 use Rattle.algo.specs.declared.Order.the-variants.{Zero, One, Two}
 use Rattle.algo.specs.declared.Share.{Share}

@@ -5,7 +5,7 @@ use Rattle.common.specs.Outcome.{Outcome, value, refused, check, inside, orNan}
 use Rattle.common.specs.Formula.{worked}
 use Rattle.common.proofs.Laws.{inside-check, raw-inside}
 use Rattle.common.proofs.Formulas.{five, five-add, five-sub, five-mul, five-div, five-inside}
-use Rattle.rules.specs.Root.{rootRule}
+use Rattle.inverses.specs.Root.{rootRule}
 use Rattle.border.specs.Border.{n1, n2, n3, n4, n5, B23-T2p, B23-p2T}
 
 settled-from : (f : Float → Float → Float) (x : Float) (q : Outcome Float) → inside q ≡ q → check (orNan (worked f (value x) q)) ≡ worked f (value x) q

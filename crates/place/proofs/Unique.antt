@@ -6,8 +6,7 @@ use Rattle.secant.specs.Secant.{Proposal}
 use Rattle.place.specs.AcceptedPlace.{paperFound}
 use Rattle.place.specs.declared.FoundAnswer.{FoundAnswer}
 use Rattle.place.specs.declared.FoundAnswer.the-variants as answers
-use Rattle.place.proofs.found.Kinds as found-kinds
-use Rattle.place.proofs.found.Reads as found
+use Rattle.place.proofs as own
 
 foundOf : Outcome Proposal → FoundAnswer
 foundOf (value q) = answers.Value (q .x) (q .trials)
@@ -21,5 +20,5 @@ found-back (answers.Refused k) = ap answers.Refused (kind-number k)
 pub same-found : (o : Outcome Proposal) (a b : FoundAnswer) → paperFound a ≡ o → paperFound b ≡ o → a ≡ b
 same-found = same paperFound foundOf found-back
 
-pub found-one : One 0 found-kinds.ps found-kinds.r found.Post
+pub found-one : One 0 own.found.Kinds.ps own.found.Kinds.r own.found.Reads.Post
 found-one κs a e x y p q = same-found _ x y p q

@@ -9,7 +9,7 @@ use Rattle.common.specs.Constant.{P-TO, T-FROM, T-TO, D-FROM, D-TO}
 use Rattle.common.specs.Answer.{numberOf}
 use Rattle.common.specs.Range.{within}
 use Rattle.border.specs.Border.{B23-T2p, B23-p2T}
-use Rattle.volume.specs.Volumes.{pT2v-at}
+use Rattle.volume_at.specs.Volumes.{pT2v-at}
 use Rattle.secant.specs.Secant.{Proposal, proposalRule}
 use Rattle.secant.specs.declared.Curve.{Curve}
 use Rattle.secant.specs.declared.Curve.the-variants.{Isochore, Enthalpy, Entropy}

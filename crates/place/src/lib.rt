@@ -21,7 +21,7 @@ use common::settle;
 use secant::Curve;
 use secant::ProposalAnswer;
 use secant::rtsec;
-use volume::pT2v_at;
+use volume_at::pT2v_at;
 ghost use mathlib.Core.Path.{_≡_};
 ghost use Rattle.common.specs.Answer.{paper, paperVerdict};
 ghost use Rattle.secant.specs.Secant.{paperProposal};

@@ -1,2 +1,2 @@
-// Points of the volumes and the backward equations, worked out by antt from the definitions and held to the published check values: proofs in
-// proofs/, no code.
+// Points of the volumes and the backward equations, worked out by antt from the definitions and held to the published check values; and that a promise
+// on an outcome is one on the number and value that a caller is told. Proofs in proofs/, no code.

@@ -1,3 +1,2 @@
-pub mod Farthest
 pub mod Lengths
 pub mod Unique

@@ -68,6 +68,3 @@ polys-i-ii-powi-one κs a e x y p q = same-pair _ x y p q
 
 pub polys-i-ii-ij-jj-powi-one : One 3 polynomial.polynomial.polys_i_ii_ij_jj_powi.Kinds.ps polynomial.polynomial.polys_i_ii_ij_jj_powi.Kinds.r polynomial.polynomial.polys_i_ii_ij_jj_powi.Reads.Post
 polys-i-ii-ij-jj-powi-one κs a e x y p q = same-four _ x y p q
-
-pub raw-sum-one : One 3 polynomial.raw.raw_sum.Kinds.ps polynomial.raw.raw_sum.Kinds.r polynomial.raw.raw_sum.Reads.Post
-raw-sum-one κs a e x y p q = p ∙ sym q

@@ -1,8 +1,5 @@
-// The calls of algo/polynomial.rs and algo/polynomial_steps.rs over a caller's columns, each total. `columns` has how far a column's exponents go, `raw` the
-// sums of columns of any lengths, and `polynomial` the calls with the Rust's names.
-mod columns;
+// The calls of algo/polynomial.rs and algo/polynomial_steps.rs over a caller's columns, each total, with the Rust's names. `column_sums` has the sums.
 mod polynomial;
-mod raw;
 
 use common::Refusal;
 use joint::Four;
@@ -18,7 +15,6 @@ pub use polynomial::polys_i_ii_ij_jj_powi;
 pub use polynomial::polys_i_ii_powi;
 pub use polynomial::polys_i_ij_powi;
 pub use polynomial::polys_i_j_powi;
-pub use raw::raw_sum;
 
 pub enum PairAnswer {
     Value(Pair),

@@ -3,12 +3,11 @@
 // The Rust's `steps` only tile a loop over the whole table, so they are dropped.
 use crate::FourAnswer;
 use crate::PairAnswer;
-use crate::columns::same_lengths;
-use crate::raw::raw_four;
-use crate::raw::raw_pair;
-use crate::raw::raw_sum;
 use algo::Order;
 use algo::Share;
+use column_sums::raw_four;
+use column_sums::raw_pair;
+use column_sums::raw_sum;
 use common::Answer;
 use common::Refusal;
 use common::is_finite;
@@ -16,10 +15,23 @@ use common::settle;
 use joint::Four;
 use joint::Pair;
 ghost use mathlib.Core.Path.{_≡_};
+ghost use mathlib.Core.Bool.{_&&_};
+ghost use lib.Dec.{eqb};
+ghost use lib.ListN.{length};
 ghost use Rattle.common.specs.Outcome.{check};
 ghost use Rattle.common.specs.Answer.{paper};
 ghost use Rattle.algo.specs.Table.{differentiated, term, termI, termII, termIJ, termJ, termJJ};
 ghost use Rattle.polynomial.specs.Columns.{tableRule, pairOf, fourOf, paperPair, paperFour, pairTable, fourTable};
+
+// Whether the columns are of one length.
+fn same_lengths(is: &[i32], js: &[i32], ns: &[f64]) -> bool
+    ensures { λ r. ⌜ r ≡ (eqb (length (now (is .entry))) (length (now (ns .entry))) && eqb (length (now (js .entry))) (length (now (ns .entry)))) ⌝ }
+{
+    if is.len() == ns.len() {
+        return js.len() == ns.len();
+    }
+    false
+}
 
 fn table_sum(a: Order, b: Order, vi: f64, vj: f64, is: &[i32], js: &[i32], ns: &[f64]) -> Answer
     ensures { λ r. ⌜ paper r ≡ tableRule (differentiated a b) vi vj (now (is .entry)) (now (js .entry)) (now (ns .entry)) ⌝ }

@@ -5,7 +5,7 @@ use Prim.Native.Nat.{ℕ}
 use lib.Ieee.{round, neg, add, sub, sum, mul, div, ofInt, le}
 use Rattle.common.specs.Outcome.{value, numberIn}
 use Rattle.common.specs.Decimal.{scaled, decimal, whole}
-use Rattle.rules.specs.Root.{rootRule, nearestRoot, wholeRoot}
+use Rattle.inverses.specs.Root.{rootRule, nearestRoot, wholeRoot}
 use Rattle.properties.specs.Td.{Sums}
 use Rattle.properties.specs.Together.{CpAndW, bothOver}
 

@@ -9,7 +9,7 @@ use Rattle.common.specs.Constant.{RGAS-WATER, TC-WATER, DC-WATER}
 use Rattle.common.specs.Formula.{worked, _⊕_, _⊖_, _⊗_, _⊘_, minusOf}
 use Rattle.common.proofs.Laws.{inside-check}
 use Rattle.common.proofs.Formulas.{Five, five, five-add, five-sub, five-mul, five-div, five-minus}
-use Rattle.rules.specs.Formula.{rootOf}
+use Rattle.inverses.specs.Formula.{rootOf}
 use Rattle.algo.specs.declared.Order.the-variants.{Zero}
 use Rattle.algo.specs.declared.Share.{Share}
 use Rattle.algo.specs.declared.Share.the-variants.{I, Ii, Ij, Jj}

@@ -5,7 +5,7 @@ use lib.Ieee.{Float}
 use Rattle.common.specs.Outcome.{Outcome, value}
 use Rattle.common.specs.Decimal.{decimal, whole}
 use Rattle.common.specs.Constant.{RGAS-WATER, TC-WATER, DC-WATER}
-use Rattle.rules.specs.Formula.{rootOf}
+use Rattle.inverses.specs.Formula.{rootOf}
 use Rattle.record.specs.State.{pressureOf}
 use Rattle.helmholtz.specs.Hfe.{phi-delta, phi-tau, phi-tautau, joint-phi, joint-tau, joint-delta, four-delta, four-deltadelta, four-deltatau, four-tautau}
 

@@ -10,10 +10,10 @@ use Rattle.common.specs.Outcome.{Outcome, value, refused, check}
 use Rattle.common.specs.declared.MPa.{MPa}
 use Rattle.common.specs.Decimal.{scaled, decimal, whole, plus, minus}
 use Rattle.common.specs.Sum.{total}
-use Rattle.rules.specs.Units.{inUnits}
+use Rattle.inverses.specs.Units.{inUnits}
 use Rattle.rules.specs.Power.{powerRule}
-use Rattle.rules.specs.Log.{logarithmRule, L}
-use Rattle.rules.specs.Root.{rootRule, nearestRoot, wholeRoot}
+use Rattle.inverses.specs.Log.{logarithmRule, L}
+use Rattle.inverses.specs.Root.{rootRule, nearestRoot, wholeRoot}
 use Rattle.algo.specs.Table.{sumRule}
 use Rattle.algo.specs.Joint.{shareRule}
 use Rattle.record.specs.Record.{report, zeroRecord, fieldsOf}

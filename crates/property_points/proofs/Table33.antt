@@ -6,10 +6,10 @@ use lib.Ieee.{Float, round, neg, add, sub, sum, mul, div, ofInt, le}
 use Rattle.common.specs.Outcome.{Outcome, value}
 use Rattle.common.specs.Decimal.{scaled, decimal, whole, plus, minus}
 use Rattle.common.specs.Sum.{total, every}
-use Rattle.rules.specs.Units.{inUnits}
+use Rattle.inverses.specs.Units.{inUnits}
 use Rattle.rules.specs.Power.{powerRule}
-use Rattle.rules.specs.Log.{logarithmRule, L}
-use Rattle.rules.specs.Root.{rootRule, nearestRoot, wholeRoot}
+use Rattle.inverses.specs.Log.{logarithmRule, L}
+use Rattle.inverses.specs.Root.{rootRule, nearestRoot, wholeRoot}
 use Rattle.algo.specs.Table.{sumRule}
 use Rattle.algo.specs.Joint.{shareRule}
 use Rattle.printed.specs.Table30.{table30}

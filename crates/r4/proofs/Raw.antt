@@ -4,7 +4,7 @@ use lib.Ieee.{Float}
 use Rattle.common.specs.Outcome.{check, orNan}
 use Rattle.common.specs.Decimal.{decimal, whole}
 use Rattle.common.proofs.Formulas.{five, five-add, five-sub, five-mul, five-div, five-minus, settled-mul}
-use Rattle.rules.proofs.Formulas.{five-rootOf}
+use Rattle.inverses.proofs.Formulas.{five-rootOf}
 use Rattle.r4.specs.Saturation.{T-saturation, n1, n2, n3, n4, n5, n6, n7, n8, n9, n10}
 
 settled : (p : Float) → check (orNan (T-saturation p)) ≡ T-saturation p

@@ -1,1 +1,2 @@
 pub mod Saturation
+pub mod Quotients

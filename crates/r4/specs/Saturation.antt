@@ -7,7 +7,8 @@ use lib.Ieee.{Float}
 use Rattle.common.specs.Outcome.{Outcome, value, then}
 use Rattle.common.specs.Decimal.{plus, minus, decimal, whole}
 use Rattle.common.specs.Range.{saturatedPBox, saturatedTBox}
-use Rattle.rules.specs.Formula.{rootOf, powerOf}
+use Rattle.rules.specs.Formula.{powerOf}
+use Rattle.inverses.specs.Formula.{rootOf}
 
 -- table 34
 abbrev pub n1 : Outcome Float

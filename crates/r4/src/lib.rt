@@ -13,13 +13,15 @@ use common::is_finite;
 use common::or_nan;
 use common::over;
 use common::settle;
+use inverses::raw_root;
 use rules::power;
-use rules::raw_root;
 ghost use mathlib.Core.Path.{_≡_};
-ghost use Rattle.common.specs.Outcome.{orNan};
+ghost use lib.Ieee.{Float};
+ghost use Rattle.common.specs.Outcome.{Outcome, orNan};
 ghost use Rattle.common.specs.Formula.{Raw};
 ghost use Rattle.common.specs.Answer.{paper};
 ghost use Rattle.r4.specs.Saturation.{p-saturation, p-saturationRule, T-saturation, T-saturationRule};
+ghost use Rattle.r4.specs.Quotients.{quotientOf, quotientD};
 
 // R7-97, table 34
 const N1: f64 = 0.11670521452767e4;
@@ -42,28 +44,38 @@ const N9: f64 = -0.23855557567849;
 
 const N10: f64 = 0.65017534844798e3;
 
+// Of equation 30 the quotient whose fourth power is p, by ϑ.
+fn quotient(theta: f64) -> f64
+    ensures { λ r. ⌜ ((ϑ : Outcome Float) → Raw ϑ theta → Raw (quotientOf ϑ) r) ⌝ }
+{
+    let a = theta * (theta + N1) + N2;
+    let b = theta * (N3 * theta + N4) + N5;
+    let c = theta * (N6 * theta + N7) + N8;
+    over(2.0 * c, -b + raw_root(b * b - 4.0 * a * c))
+}
+
 // Equation 30.
 fn p_steps(t: f64) -> f64
     ensures { λ r. ⌜ Raw (p-saturation t) r ⌝ }
 {
-    let theta = t + over(N9, t - N10);
-    let a = theta * (theta + N1) + N2;
-    let b = theta * (N3 * theta + N4) + N5;
-    let c = theta * (N6 * theta + N7) + N8;
-    let divisor = -b + raw_root(b * b - 4.0 * a * c);
-    or_nan(power(over(2.0 * c, divisor), 4))
+    or_nan(power(quotient(t + over(N9, t - N10)), 4))
+}
+
+// Of equation 31 the quotient D, by β.
+fn quotient_d(beta: f64) -> f64
+    ensures { λ r. ⌜ ((β : Outcome Float) → Raw β beta → Raw (quotientD β) r) ⌝ }
+{
+    let e = beta * (beta + N3) + N6;
+    let f = beta * (N1 * beta + N4) + N7;
+    let g = beta * (N2 * beta + N5) + N8;
+    over(2.0 * g, -f - raw_root(f * f - 4.0 * e * g))
 }
 
 // Equation 31.
 fn t_steps(p: f64) -> f64
     ensures { λ r. ⌜ Raw (T-saturation p) r ⌝ }
 {
-    let beta = raw_root(raw_root(p));
-    let e = beta * (beta + N3) + N6;
-    let f = beta * (N1 * beta + N4) + N7;
-    let g = beta * (N2 * beta + N5) + N8;
-    let divisor = -f - raw_root(f * f - 4.0 * e * g);
-    let d = over(2.0 * g, divisor);
+    let d = quotient_d(raw_root(raw_root(p)));
     let square = (N10 + d) * (N10 + d) - 4.0 * (N9 + N10 * d);
     0.5 * (N10 + d - raw_root(square))
 }

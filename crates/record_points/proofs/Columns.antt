@@ -10,10 +10,10 @@ use lib.Ieee.{Float, round, neg, add, sub, sum, mul, div, ofInt, le, lt}
 use Rattle.common.specs.Decimal.{scaled, decimal, whole, plus, minus}
 use Rattle.common.specs.Outcome.{value, refused, zeroF}
 use Rattle.common.specs.Sum.{total}
-use Rattle.rules.specs.Units.{inUnits}
+use Rattle.inverses.specs.Units.{inUnits}
 use Rattle.rules.specs.Power.{powerRule, byBits, lowest}
-use Rattle.rules.specs.Root.{rootRule, nearestRoot, wholeRoot}
-use Rattle.rules.specs.Log.{logarithmRule, lnOf, lnSteps, L}
+use Rattle.inverses.specs.Root.{rootRule, nearestRoot, wholeRoot}
+use Rattle.inverses.specs.Log.{logarithmRule, lnOf, lnSteps, L}
 use Rattle.rules.specs.Exp.{exponentialRule, expSteps, nearestWhole}
 use Rattle.algo.specs.Table.{sumRule}
 use Rattle.printed.specs.Volumes.{table3a, table3b, table3c, table3d, table3e, table3f, table3g, table3h, table3i, table3j, table3k, table3l, table3m, table3n, table3o, table3p, table3q, table3r, table3s, table3t, table3u, table3v, table3w, table3x, table3y, table3z}
@@ -22,8 +22,11 @@ use Rattle.border.specs.Border.{B23-p2T, besideBorder, region3Box}
 use Rattle.boundaries.specs.Boundary.{walkRule, rowAt, table, straight3ef}
 use Rattle.boundary.specs.Choice.{letterAt, abRule, cdefRule, chijkRule, clmnopjkRule, nearRule, cq-rkRule, csrkRule, cstRule, ctRule, limit}
 use Rattle.volume.specs.Equation.{volumeAt, volumeBy}
-use Rattle.volume.specs.Volumes.{originAt, originRule, stateBy, foundRule}
-use Rattle.column_run.specs.Columns.{lent, filled, rowsBy, rowRule, columnsRule}
+use Rattle.origin.specs.Origin.{originAt, originRule}
+use Rattle.volume.specs.State.{stateBy}
+use Rattle.volume_at.specs.Volumes.{foundRule}
+use Rattle.column_row.specs.Row.{rowRule}
+use Rattle.column_run.specs.Columns.{lent, filled, rowsBy, columnsRule}
 
 pub ps : List Float
 ps = (whole 24) ∷ (decimal 22_064 3) ∷ (whole 24) ∷ (whole 50) ∷ (whole 17) ∷ []

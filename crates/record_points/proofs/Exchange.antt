@@ -9,10 +9,10 @@ use lib.Ieee.{Float, binary64, ofBits}
 use lib.Ieee.{round, neg, add, sub, sum, mul, div, ofInt, le, lt}
 use Rattle.common.specs.Decimal.{scaled, decimal, whole, plus, minus}
 use Rattle.common.specs.Sum.{total}
-use Rattle.rules.specs.Units.{inUnits}
+use Rattle.inverses.specs.Units.{inUnits}
 use Rattle.rules.specs.Power.{powerRule, byBits, lowest}
-use Rattle.rules.specs.Root.{rootRule, nearestRoot, wholeRoot}
-use Rattle.rules.specs.Log.{logarithmRule, lnOf, lnSteps, L}
+use Rattle.inverses.specs.Root.{rootRule, nearestRoot, wholeRoot}
+use Rattle.inverses.specs.Log.{logarithmRule, lnOf, lnSteps, L}
 use Rattle.rules.specs.Exp.{exponentialRule, expSteps, nearestWhole}
 use Rattle.algo.specs.Table.{sumRule}
 use Rattle.algo.specs.Joint.{shareRule}
@@ -22,7 +22,9 @@ use Rattle.border.specs.Border.{B23-p2T, besideBorder, region3Box}
 use Rattle.boundaries.specs.Boundary.{walkRule, rowAt, table, straight3ef}
 use Rattle.boundary.specs.Choice.{letterAt, abRule, cdefRule, chijkRule, clmnopjkRule, nearRule, cq-rkRule, csrkRule, cstRule, ctRule, limit}
 use Rattle.volume.specs.Equation.{volumeAt, volumeBy}
-use Rattle.volume.specs.Volumes.{originAt, originRule, stateBy, foundRule}
+use Rattle.origin.specs.Origin.{originAt, originRule}
+use Rattle.volume.specs.State.{stateBy}
+use Rattle.volume_at.specs.Volumes.{foundRule}
 use Rattle.printed.specs.Table30.{table30}
 use Rattle.helmholtz.specs.Hfe.{slope, phi, phi-delta, phi-deltadelta, share, joint-phi, joint-delta, four-delta, four-deltadelta}
 use Rattle.properties.specs.Td.{Td2v, Td2p, Td2h, Td2s, Td2u, Td2cv, Td2cp, Td2w, statePressure}

@@ -1,3 +1,4 @@
 pub mod Columns
 pub mod Records
 pub mod Exchange
+pub mod Agree

@@ -9,10 +9,10 @@ use lib.Ieee.{Float, round, neg, add, sub, sum, mul, div, ofInt, le, lt}
 use Rattle.common.specs.Decimal.{scaled, decimal, whole, plus, minus}
 use Rattle.common.specs.Outcome.{Outcome, value, refused}
 use Rattle.common.specs.Sum.{total}
-use Rattle.rules.specs.Units.{inUnits}
+use Rattle.inverses.specs.Units.{inUnits}
 use Rattle.rules.specs.Power.{powerRule, byBits, lowest}
-use Rattle.rules.specs.Root.{rootRule, nearestRoot, wholeRoot}
-use Rattle.rules.specs.Log.{logarithmRule, lnOf, lnSteps, L}
+use Rattle.inverses.specs.Root.{rootRule, nearestRoot, wholeRoot}
+use Rattle.inverses.specs.Log.{logarithmRule, lnOf, lnSteps, L}
 use Rattle.rules.specs.Exp.{exponentialRule, expSteps, nearestWhole}
 use Rattle.algo.specs.Table.{sumRule}
 use Rattle.algo.specs.Joint.{shareRule}
@@ -22,7 +22,9 @@ use Rattle.border.specs.Border.{B23-T2p, B23-T2pRule, B23-p2T, besideBorder, re
 use Rattle.boundaries.specs.Boundary.{walkRule, rowAt, table, straight3ef}
 use Rattle.boundary.specs.Choice.{letterAt, abRule, cdefRule, chijkRule, clmnopjkRule, nearRule, cq-rkRule, csrkRule, cstRule, ctRule, limit}
 use Rattle.volume.specs.Equation.{volumeAt, volumeBy}
-use Rattle.volume.specs.Volumes.{State, originAt, originRule, stateBy, stateAt, foundRule, pT2v-reg3Rule}
+use Rattle.origin.specs.Origin.{originAt, originRule}
+use Rattle.volume.specs.State.{State, stateBy}
+use Rattle.volume_at.specs.Volumes.{stateAt, foundRule, pT2v-reg3Rule}
 use Rattle.printed.specs.Backward.{table-t3a-ph, table-t3b-ph, table-v3a-ph, table-v3b-ph, table-t3a-ps, table-t3b-ps, table-v3a-ps, table-v3b-ps, table-p3a-hs, table-p3b-hs}
 use Rattle.backward.specs.Equation.{worked, workedBy}
 use Rattle.backward.specs.Backward.{h3ab, side-ph, hs2p-reg3Rule, tvd-ph, tvd-ps}

@@ -18,7 +18,7 @@ use record::refuse;
 use td_record::Pressure;
 use td_record::work_record;
 use volume::StateAnswer;
-use volume::found_pT;
+use volume_at::found_pT;
 ghost use mathlib.Core.Path.{_≡_};
 ghost use Rattle.record.specs.Record.{report, paperRecord};
 ghost use Rattle.backward.specs.Backward.{paperTvd};

@@ -1,11 +1,10 @@
--- To believe: what an exported call leaves with its caller: a refusal byte, and a number, a letter, a record or columns behind a pointer. The record that
--- a caller lends only helps proofs: no answer depends on it. Assumes nothing: these are definitions.
+-- To believe: what an exported call leaves with its caller: a refusal byte, and a number, a letter, a record or columns behind a pointer. Assumes
+-- nothing: these are definitions.
 use Rattle.record.specs.Record.{fieldsOf}
 use mathlib.Core.Path.{_≡_}
 use mathlib.Core.List.{List}
 use Prim.Native.Nat.{ℕ}
-use lib.ListN.{getD}
-use lib.Ieee.{Float, nan}
+use lib.Ieee.{Float}
 use Rattle.common.specs.Outcome.{Outcome, numberIn, valueIn, valueOr, zeroF}
 use Rattle.subregion.specs.declared.Letter.{Letter}
 use Rattle.subregion.specs.Letter.{byteIn}
@@ -51,19 +50,3 @@ pub record ExportedRead (s : List ℕ) (byte pair : ℕ) (fields : List Float) :
   pub answer : Outcome Pair × (Outcome Unit × Record)
   pub exchanged : Exchanged s answer
   pub told : ExportedExchange answer byte pair fields
-
--- the record that ten numbers are, in the order of `fieldsOf`
-abbrev pub lentRecord : List Float → Record
-lentRecord xs =
-    record {
-      T = getD xs 0 nan;
-      d = getD xs 1 nan;
-      v = getD xs 2 nan;
-      p = getD xs 3 nan;
-      h = getD xs 4 nan;
-      s = getD xs 5 nan;
-      u = getD xs 6 nan;
-      cv = getD xs 7 nan;
-      cp = getD xs 8 nan;
-      w = getD xs 9 nan;
-    }

@@ -1,5 +1,5 @@
 // The library for callers in C and Rust. A call returns the refusal's number, 0 where it is accepted, and writes what it answers through a
-// pointer (specs/Exported.antt). The caller's ten numbers go in as his record and come back replaced or zeroed. The units and the numbers of the
+// pointer (specs/Exported.antt): of the caller's ten numbers each is replaced, or zeroed. The units and the numbers of the
 // refusals are in bindings/c/region3.h. In this order: the four rules, the saturation line, the border with region 2, a property, cp and w
 // together, the letter, the five records, what a search finds and the records there, the columns, the exchange record.
 mod exported;
@@ -11,18 +11,18 @@ use common::KgPerM3;
 use common::M3PerKg;
 use common::MPa;
 use common::verdict_byte;
+use exchange_entry::verdict_number;
+use exchange_entry::verdict_pair;
 use exported::exported;
-use exported::exported_exchange;
 use exported::exported_found;
-use exported::exported_record;
-use exported::exported_searched;
-use exported::lent_record;
+use record::blank;
+use record::fields;
 use subregion::letter_byte;
 use subregion::refusal_byte;
 ghost use mathlib.Core.Path.{_≡_};
 ghost use Rattle.rules.specs.Power.{powerRule};
-ghost use Rattle.rules.specs.Root.{rootRule};
-ghost use Rattle.rules.specs.Log.{logarithmRule};
+ghost use Rattle.inverses.specs.Root.{rootRule};
+ghost use Rattle.inverses.specs.Log.{logarithmRule};
 ghost use Rattle.rules.specs.Exp.{exponentialRule};
 ghost use Rattle.r4.specs.Saturation.{p-saturationRule, T-saturationRule};
 ghost use Rattle.border.specs.Border.{B23-T2pRule, B23-p2TRule};
@@ -34,7 +34,7 @@ ghost use Rattle.td_record.specs.Steps.{recordRule};
 ghost use Rattle.region3.specs.Entries.{pTRule, phRule, psRule, hsRule};
 ghost use Rattle.search.specs.Calls.{pv2T-reg3Rule, Th2d-reg3Rule, Ts2d-reg3Rule, pvRule, ThRule, TsRule, reportSearched};
 ghost use Rattle.column_run.specs.Columns.{lent, columnsRule};
-ghost use Rattle.exchange_writer.specs.Written.{writtenBy};
+ghost use Rattle.exchange_entry.specs.Write.{writtenBy};
 ghost use Rattle.region3_c.specs.Exported.{Exported, ExportedLetter, ExportedRecord, ExportedFound, ExportedSearched, ExportedColumns, ExportedRead};
 
 #[no_mangle]
@@ -48,14 +48,14 @@ pub extern "C" fn r3_power(a: f64, n: i32, out: &mut f64) -> u8
 pub extern "C" fn r3_root(x: f64, out: &mut f64) -> u8
     ensures { λ r. ⌜ Exported (rootRule x) r (now (out .exit)) ⌝ }
 {
-    exported(rules::root(x), out)
+    exported(inverses::root(x), out)
 }
 
 #[no_mangle]
 pub extern "C" fn r3_logarithm(x: f64, out: &mut f64) -> u8
     ensures { λ r. ⌜ Exported (logarithmRule x) r (now (out .exit)) ⌝ }
 {
-    exported(rules::logarithm(x), out)
+    exported(inverses::logarithm(x), out)
 }
 
 #[no_mangle]
@@ -128,44 +128,50 @@ pub extern "C" fn r3_letter(p: f64, t: f64, letter: &mut u8) -> u8
 pub extern "C" fn r3_td(t: f64, d: f64, out: &mut [f64; 10]) -> u8
     ensures { λ r. ⌜ ExportedRecord (report (recordRule t d)) r (now (out .exit)) ⌝ }
 {
-    exported_record(
-        td_record::Td_reg3(lent_record(*out), Kelvin(t), KgPerM3(d)),
-        out,
-    )
+    let a = td_record::Td_reg3(blank(), Kelvin(t), KgPerM3(d));
+    *out = fields(a.record);
+    let v = a.verdict;
+    verdict_byte(v)
 }
 
 #[no_mangle]
 pub extern "C" fn r3_pt(p: f64, t: f64, out: &mut [f64; 10]) -> u8
     ensures { λ r. ⌜ ExportedRecord (report (pTRule p t)) r (now (out .exit)) ⌝ }
 {
-    exported_record(region3::pT_reg3(lent_record(*out), MPa(p), Kelvin(t)), out)
+    let a = region3::pT_reg3(blank(), MPa(p), Kelvin(t));
+    *out = fields(a.record);
+    let told = a.verdict;
+    verdict_byte(told)
 }
 
 #[no_mangle]
 pub extern "C" fn r3_ph(p: f64, h: f64, out: &mut [f64; 10]) -> u8
     ensures { λ r. ⌜ ExportedRecord (report (phRule p h)) r (now (out .exit)) ⌝ }
 {
-    exported_record(region3::ph_reg3(lent_record(*out), MPa(p), KJPerKg(h)), out)
+    let a = region3::ph_reg3(blank(), MPa(p), KJPerKg(h));
+    *out = fields(a.record);
+    let v = a.verdict;
+    verdict_byte(v)
 }
 
 #[no_mangle]
 pub extern "C" fn r3_ps(p: f64, s: f64, out: &mut [f64; 10]) -> u8
     ensures { λ r. ⌜ ExportedRecord (report (psRule p s)) r (now (out .exit)) ⌝ }
 {
-    exported_record(
-        region3::ps_reg3(lent_record(*out), MPa(p), KJPerKgK(s)),
-        out,
-    )
+    let a = region3::ps_reg3(blank(), MPa(p), KJPerKgK(s));
+    *out = fields(a.record);
+    let v = a.verdict;
+    verdict_byte(v)
 }
 
 #[no_mangle]
 pub extern "C" fn r3_hs(h: f64, s: f64, out: &mut [f64; 10]) -> u8
     ensures { λ r. ⌜ ExportedRecord (report (hsRule h s)) r (now (out .exit)) ⌝ }
 {
-    exported_record(
-        region3::hs_reg3(lent_record(*out), KJPerKg(h), KJPerKgK(s)),
-        out,
-    )
+    let a = region3::hs_reg3(blank(), KJPerKg(h), KJPerKgK(s));
+    *out = fields(a.record);
+    let v = a.verdict;
+    verdict_byte(v)
 }
 
 // What a search finds, and its trials: T at p and v, d at T and h, d at T and s; then the records there.
@@ -194,33 +200,33 @@ pub extern "C" fn r3_ts2d(t: f64, s: f64, out: &mut f64, trials: &mut u32) -> u8
 pub extern "C" fn r3_pv(p: f64, v: f64, out: &mut [f64; 10], trials: &mut u32) -> u8
     ensures { λ r. ⌜ ExportedSearched (reportSearched (pvRule p v)) r (now (out .exit)) (now (trials .exit)) ⌝ }
 {
-    exported_searched(
-        search::pv_reg3(lent_record(*out), MPa(p), M3PerKg(v)),
-        out,
-        trials,
-    )
+    let a = search::pv_reg3(blank(), MPa(p), M3PerKg(v));
+    *out = fields(a.record);
+    *trials = a.trials;
+    let v = a.verdict;
+    verdict_byte(v)
 }
 
 #[no_mangle]
 pub extern "C" fn r3_th(t: f64, h: f64, out: &mut [f64; 10], trials: &mut u32) -> u8
     ensures { λ r. ⌜ ExportedSearched (reportSearched (ThRule t h)) r (now (out .exit)) (now (trials .exit)) ⌝ }
 {
-    exported_searched(
-        search::Th_reg3(lent_record(*out), Kelvin(t), KJPerKg(h)),
-        out,
-        trials,
-    )
+    let a = search::Th_reg3(blank(), Kelvin(t), KJPerKg(h));
+    *out = fields(a.record);
+    *trials = a.trials;
+    let v = a.verdict;
+    verdict_byte(v)
 }
 
 #[no_mangle]
 pub extern "C" fn r3_ts(t: f64, s: f64, out: &mut [f64; 10], trials: &mut u32) -> u8
     ensures { λ r. ⌜ ExportedSearched (reportSearched (TsRule t s)) r (now (out .exit)) (now (trials .exit)) ⌝ }
 {
-    exported_searched(
-        search::Ts_reg3(lent_record(*out), Kelvin(t), KJPerKgK(s)),
-        out,
-        trials,
-    )
+    let found = search::Ts_reg3(blank(), Kelvin(t), KJPerKgK(s));
+    *out = fields(found.record);
+    *trials = found.trials;
+    let v = found.verdict;
+    verdict_byte(v)
 }
 
 // The column run: 0, or 7 and nothing written.
@@ -234,8 +240,7 @@ pub extern "C" fn r3_columns(
 ) -> u8
     ensures { λ r. ⌜ ExportedColumns (columnsRule (now (p .entry)) (now (t .entry)) (lent (now (letter .entry)) (now (density .entry)) (now (refusal .entry)))) r (now (letter .exit)) (now (density .exit)) (now (refusal .exit)) ⌝ }
 {
-    let v = column_run::columns(p, t, letter, density, refusal);
-    verdict_byte(v)
+    verdict_byte(column_run::columns(p, t, letter, density, refusal))
 }
 
 // An exchange record: the byte of the pair that was read, 0 where none was, and the pair's own answer.
@@ -243,7 +248,11 @@ pub extern "C" fn r3_columns(
 pub extern "C" fn r3_read(bytes: &[u8], pair: &mut u8, out: &mut [f64; 10]) -> u8
     ensures { λ r. ⌜ ExportedRead (now (bytes .entry)) r (now (pair .exit)) (now (out .exit)) ⌝ }
 {
-    exported_exchange(exchange_entry::answer(lent_record(*out), bytes), pair, out)
+    let a = exchange_entry::answer(blank(), bytes);
+    *out = fields(a.record);
+    let v = a.verdict;
+    *pair = verdict_pair(v);
+    verdict_number(v)
 }
 
 // The record of a point, by the byte of its pair: 0 and 22 bytes at the front, or a number and every byte as found.
@@ -251,5 +260,5 @@ pub extern "C" fn r3_read(bytes: &[u8], pair: &mut u8, out: &mut [f64; 10]) -> u
 pub extern "C" fn r3_write(pair: u8, a: f64, b: f64, out: &mut [u8]) -> u8
     ensures { λ r. ⌜ (r, now (out .exit)) ≡ writtenBy pair a b (now (out .entry)) ⌝ }
 {
-    exchange_writer::write_by(pair, a, b, out)
+    exchange_entry::write_by(pair, a, b, out)
 }

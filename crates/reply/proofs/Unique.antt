@@ -6,29 +6,20 @@ use contract.Lifetimes.{Lfts}
 use denote.Triple.Clauses.{AtExit}
 use borrow.Fn.Kinds.{Dens, endedOf, resT}
 use Rattle.common.proofs.Same.{One}
-use Rattle.reply.proofs.shape.refused.Kinds as refused-kinds
-use Rattle.reply.proofs.shape.refused.Reads as refused
-use Rattle.reply.proofs.shape.number_reply.Kinds as number-reply-kinds
-use Rattle.reply.proofs.shape.number_reply.Reads as number-reply
-use Rattle.reply.proofs.shape.letter_reply.Kinds as letter-reply-kinds
-use Rattle.reply.proofs.shape.letter_reply.Reads as letter-reply
-use Rattle.reply.proofs.shape.record_reply.Kinds as record-reply-kinds
-use Rattle.reply.proofs.shape.record_reply.Reads as record-reply
-use Rattle.reply.proofs.bytes.put_reply.Kinds as put-reply-kinds
-use Rattle.reply.proofs.bytes.put_reply.Reads as put-reply
+use Rattle.reply.proofs as own
 
-pub refused-one : One 0 refused-kinds.ps refused-kinds.r refused.Post
+pub refused-one : One 0 own.shape.refused.Kinds.ps own.shape.refused.Kinds.r own.shape.refused.Reads.Post
 refused-one κs a e x y p q = p ∙ sym q
 
-pub number-reply-one : One 0 number-reply-kinds.ps number-reply-kinds.r number-reply.Post
+pub number-reply-one : One 0 own.shape.number_reply.Kinds.ps own.shape.number_reply.Kinds.r own.shape.number_reply.Reads.Post
 number-reply-one κs a e x y p q = p ∙ sym q
 
-pub letter-reply-one : One 0 letter-reply-kinds.ps letter-reply-kinds.r letter-reply.Post
+pub letter-reply-one : One 0 own.shape.letter_reply.Kinds.ps own.shape.letter_reply.Kinds.r own.shape.letter_reply.Reads.Post
 letter-reply-one κs a e x y p q = p ∙ sym q
 
-pub record-reply-one : One 0 record-reply-kinds.ps record-reply-kinds.r record-reply.Post
+pub record-reply-one : One 0 own.shape.record_reply.Kinds.ps own.shape.record_reply.Kinds.r own.shape.record_reply.Reads.Post
 record-reply-one κs a e x y p q = p ∙ sym q
 
-pub put-reply-one : (κs : Lfts 1) (a : Dens κs put-reply-kinds.ps) (d e : AtExit (endedOf 1 put-reply-kinds.ps put-reply-kinds.r) κs) (x y : resT put-reply-kinds.r κs .Denot) →
-    put-reply.Post κs a x d → put-reply.Post κs a y e → now (d .0) ≡ now (e .0)
+pub put-reply-one : (κs : Lfts 1) (a : Dens κs own.bytes.put_reply.Kinds.ps) (d e : AtExit (endedOf 1 own.bytes.put_reply.Kinds.ps own.bytes.put_reply.Kinds.r) κs) (x y : resT own.bytes.put_reply.Kinds.r κs .Denot) →
+    own.bytes.put_reply.Reads.Post κs a x d → own.bytes.put_reply.Reads.Post κs a y e → now (d .0) ≡ now (e .0)
 put-reply-one κs a d e x y p q = p ∙ sym q

@@ -5,9 +5,9 @@ use Prim.Native.Nat.{ℕ}
 use lib.Ieee.{ofBits, ofFields, odd, round, neg, add, sub, sum, mul, div, ofInt, le, lt, eq}
 use Rattle.common.specs.Decimal.{scaled, decimal as printed, whole, plus, minus}
 use Rattle.common.specs.Sum.{total}
-use Rattle.rules.specs.Units.{inUnits}
+use Rattle.inverses.specs.Units.{inUnits}
 use Rattle.rules.specs.Power.{powerRule}
-use Rattle.rules.specs.Root.{rootRule, nearestRoot, wholeRoot}
+use Rattle.inverses.specs.Root.{rootRule, nearestRoot, wholeRoot}
 use Rattle.r4.specs.Saturation.{p-saturation}
 use Rattle.border.specs.Border.{B23-p2T, besideBorder, region3Box}
 use Rattle.boundaries.specs.Boundary.{walkRule, rowAt, table, straight3ef}

@@ -25,8 +25,8 @@ fn mark(c: LetterAnswer) -> u8
 }
 
 // A number and the text after it; `put_decimal` wants room for twenty digits.
-fn put_number(out: &mut [u8], at: usize, n: u64, after: &[u8]) -> usize
-    requires { ⌜ at + 20 + length (now after) ≤ length (now out) ⌝ }
+fn put_number(out: &mut [u8; 16384], at: usize, n: u64, after: &[u8]) -> usize
+    requires { ⌜ at + 20 + length (now after) ≤ 16384 ⌝ }
     ensures { λ r. ⌜ Wrote (now (out .entry)) at (decimal n ++ now (after .entry)) (now (out .exit)) r ⌝ }
 {
     let next = put_decimal(out, at, n);
@@ -34,8 +34,8 @@ fn put_number(out: &mut [u8], at: usize, n: u64, after: &[u8]) -> usize
 }
 
 // The line of one row, of 27 bytes at most.
-fn put_line(out: &mut [u8], at: usize, row: u64, c: LetterAnswer) -> usize
-    requires { ⌜ at + 44 ≤ length (now out) ⌝ }
+fn put_line(out: &mut [u8; 16384], at: usize, row: u64, c: LetterAnswer) -> usize
+    requires { ⌜ at + 44 ≤ 16384 ⌝ }
     ensures { λ r. ⌜ Wrote (now (out .entry)) at (lineOf row (paperLetter c)) (now (out .exit)) r ⌝ }
     ensures { λ r. ⌜ r ≤ at + 27 ⌝ }
 {
@@ -44,8 +44,14 @@ fn put_line(out: &mut [u8], at: usize, row: u64, c: LetterAnswer) -> usize
 }
 
 // The lines of the first n rows of the columns, from index 0 on.
-pub fn put_lines(ps: &[f64], ts: &[f64], n: usize, done: u64, out: &mut [u8]) -> usize
-    requires { ⌜ (n ≤ length (now ps)) × (n ≤ length (now ts)) × (27 * n + 17 ≤ length (now out)) × (done + n < 2 ^ 64) ⌝ }
+pub fn put_lines(
+    ps: &[f64; 512],
+    ts: &[f64; 512],
+    n: usize,
+    done: u64,
+    out: &mut [u8; 16384],
+) -> usize
+    requires { ⌜ (n ≤ 512) × (done + n < 2 ^ 64) ⌝ }
     ensures { λ r. ⌜ Wrote (now (out .entry)) 0 (linesOf done (now (ps .entry)) (now (ts .entry)) n) (now (out .exit)) r ⌝ }
     ensures { λ r. ⌜ r ≤ 27 * n ⌝ }
 {
@@ -61,8 +67,7 @@ pub fn put_lines(ps: &[f64], ts: &[f64], n: usize, done: u64, out: &mut [u8]) ->
 }
 
 // The last line, of 52 bytes at most.
-pub fn put_last(rows: u64, left: u64, out: &mut [u8]) -> usize
-    requires { ⌜ 52 ≤ length (now out) ⌝ }
+pub fn put_last(rows: u64, left: u64, out: &mut [u8; 16384]) -> usize
     ensures { λ r. ⌜ Wrote (now (out .entry)) 0 (lastLine rows left) (now (out .exit)) r ⌝ }
     ensures { λ r. ⌜ r ≤ 52 ⌝ }
 {

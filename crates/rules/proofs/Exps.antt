@@ -3,27 +3,28 @@
 use mathlib.Core.Path.{_≡_, refl, sym, ap, _∙_, subst}
 use mathlib.Core.Logic.{_⊎_, inl, inr}
 use Prim.Native.Nat.{ℕ, zero, suc, _+_, _-_, _*_, _/_, _%_, _^_, _≤_, _<_, compare, Ordering, Ordering·lt, Ordering·eq, Ordering·gt}
-use native.Mathlib.Nat.{le-trans, le-of-eq, lt-of-lt-of-le, lt-of-le-of-lt, lt-of-not-le, not-le-of-lt, zero-lt-suc, zero-mul, one-mul, mul-one, mul-pos, mul-comm, mul-assoc, mul-right-comm, mul-le-mul-right, mul-lt-mul-of-pos-right, le-of-mul-le-mul-right, lt-of-mul-lt-mul-right, eq-of-mul-eq-mul-right, div-add-mod', div-mul-le-self, div-lt-iff-lt-mul, mod-eq-of-lt}
+use native.Mathlib.Nat.{le-trans, le-of-eq, lt-of-lt-of-le, lt-of-le-of-lt, lt-of-not-le, not-le-of-lt, zero-lt-suc, zero-mul, one-mul, mul-one, mul-pos, mul-comm, mul-assoc, mul-right-comm, mul-le-mul-left, mul-le-mul-right, mul-lt-mul-of-pos-right, le-of-mul-le-mul-right, lt-of-mul-lt-mul-right, eq-of-mul-eq-mul-right, div-mul-le-self, div-lt-iff-lt-mul, mod-eq-of-lt}
 use native.Mathlib.Omega.{arith}
 use mathlib.Core.Bool.{Bool, true, false, not, _&&_, cond}
-use lib.Dec.{T, leb, ltb, leb→le, le→leb, ltb→lt, lt→ltb, lit≤, lit<}
+use lib.Dec.{T, leb, ltb, leb→le, le→leb, lt→ltb, lit≤, lit<}
 use lib.IntN.{ℤ, pos, negsuc, negℤ}
+use borrow.Author.Tests.{lt-ltb, le-ltb}
 use lib.Pow.{pow-pos, pow-add, pow-mono, pow-lt}
 use lib.Ieee.{Float, nan, inf, fin, binary64, up, down, size, nearest, fits, isNan, toBits, ofBits, round, neg, mul, div, ofInt, le, lt}
 use lib.Ieee.Bits.{ofBits-toBits, ofBits-fits}
-use lib.Ieee.Fits.{up-pos, down-pos}
+use lib.Ieee.Fits.{and-i, up-pos, down-pos}
 use lib.Ieee.Exact.{HasValue}
 use lib.Ieee.Nearest.{closest, closest-same, closest-mono}
 use lib.Ieee.Order.{round-mono}
-use Rattle.common.specs.Outcome.{finite, check}
-use Rattle.rules.specs.Log.{float, L}
-use Rattle.rules.specs.Exp.{wholeSize, withSign, nearestWhole, twoTo, from14, expSteps}
+use Rattle.common.specs.Outcome.{Outcome, value, refused, finite, check}
+use Rattle.common.specs.Range.{onlyRule}
+use Rattle.rules.specs.Exp.{float, L, wholeSize, withSign, nearestWhole, twoTo, from14, expSteps}
 use Rattle.rules.specs.RawExp.{rawExp, atMost1010}
 use Rattle.common.proofs.Laws.{never, check-kept}
+use Rattle.common.proofs.Calls.{no-value}
 use Rattle.common.proofs.Formulas.{raw-value, raw-first, raw-fold, raw-add-from, raw-sub-from, raw-by, raw-times, _*ʳ_}
-use Rattle.rules.proofs.Fields.{bitsOf, bits-are, bits-lt, read-0, read-suc, shape, same}
-use Rattle.rules.proofs.Whole.{Cmp, cmp}
-use Rattle.rules.proofs.Rounds.{round-neg, round-shape, small-finite, le-sizes, ge-sizes}
+use Rattle.rules.proofs.Fields.{bits-lt, read-0, read-suc, shape, same}
+use Rattle.rules.proofs.Rounds.{Cmp, cmp, round-neg, round-shape, small-finite, le-sizes, ge-sizes}
 
 -- ---- the bits of a number without its sign
 
@@ -31,17 +32,6 @@ fits-size : (s : Bool) (m : ℕ) (e : ℤ) → T (fits binary64 (fin s m e)) →
 unfolding fits
 fits-size s zero e t = t
 fits-size s (suc m) e t = t
-
-zero-bits : (s : Bool) (e : ℤ) → toBits binary64 (fin s zero e) ≡ bitsOf s 0
-zero-bits s e = bits-are (fin s zero e) s 0 (refl, ap (λ (y : ℕ). y * 2 ^ 1074) (zero-mul (up e)) ∙ sym (zero-mul (down e)))
-
-no-bits : bitsOf false 0 < 0x7ff0_0000_0000_0000
-unfolding size
-no-bits = lit< tt
-
-size-bits-lt : (m : ℕ) (e : ℤ) → T (fits binary64 (fin false m e)) → toBits binary64 (fin false m e) < 0x7ff0_0000_0000_0000
-size-bits-lt zero e f = subst (λ (y : ℕ). y < 0x7ff0_0000_0000_0000) (sym (zero-bits false e)) no-bits
-size-bits-lt (suc m) e f = bits-lt (fin false (suc m) e) f tt
 
 without-sign : (s : Bool) (a b : ℕ) → 0 + a + b < 0x7ff0_0000_0000_0000 → (cond s 0x8000_0000_0000_0000 0 + a + b) % 0x8000_0000_0000_0000 ≡ 0 + a + b
 without-sign true a b h = omega arith
@@ -52,7 +42,7 @@ unfolding toBits
 size-bits s m e t =
     let n = m * up e * 2 ^ 1074 / down e in
     let k = size n - 53 in
-    without-sign s (k * 2 ^ 52) (n / 2 ^ k) (size-bits-lt m e (fits-size s m e t))
+    without-sign s (k * 2 ^ 52) (n / 2 ^ k) (bits-lt m e (fits-size s m e t))
 
 -- ---- the nearest whole number
 pub closest-lt : (a b : ℕ) → a % b * 2 < b → closest a b ≡ a / b
@@ -112,7 +102,7 @@ module _ (m : ℕ) (e : ℤ) (f : T (fits binary64 (fin false m e))) where
       → (k : ℕ) × (toBits binary64 (fin false m e) / 2 ^ 52 ≡ suc k) × (m * up e * 2 ^ 1074 ≡ (toBits binary64 (fin false m e) % 2 ^ 52 + 2 ^ 52) * 2 ^ k * down e)
   normal n =
       let c = toBits binary64 (fin false m e) in
-      let s = shape c (size-bits-lt m e f) n in
+      let s = shape c (bits-lt m e f) n in
       let r = c % 2 ^ 52 + 2 ^ 52 in
       let v : HasValue (ofBits binary64 c) false (r * 2 ^ (s .0)) (2 ^ 1074) = subst (λ (y : ℕ). HasValue (ofBits binary64 y) false (r * 2 ^ (s .0)) (2 ^ 1074)) (sym (s .3)) (read-suc (s .0) r (s .2) (omega arith) (omega arith)) in
       (s .0, s .1, of-value (r * 2 ^ (s .0)) v)
@@ -189,18 +179,12 @@ whole-le nan t = absurd t
 whole-le (inf s) t = absurd t
 whole-le (fin s m e) t = closest-mono (m * up e) (down e) 1010 1 (down-pos e) (zero-lt-suc 0) (le-trans (le-of-eq (mul-one (m * up e))) (leb→le (m * up e) (1010 * down e) t))
 
--- the code's `one` and `rest`
+-- the code's `one`
 pub one-is : (p : ℕ) → p ≤ 53 → 1 * 2 ^ p % 2 ^ 64 ≡ 2 ^ p
 one-is p h = ap (λ (y : ℕ). y % 2 ^ 64) (one-mul (2 ^ p)) ∙ mod-eq-of-lt (pow-lt {i = p} {j = 64} (omega arith))
 
-pub rest-is : (d b : ℕ) → d - d / b * b ≡ d % b
-rest-is d b = let h = div-add-mod' d b in omega arith
-
 pub quotient-le : (d b : ℕ) → 0 < b → d / b ≤ d
-quotient-le d b h = le-trans (le-of-eq (sym (mul-one (d / b)))) (le-trans (mul-le (d / b) 1 b h) (div-mul-le-self d b))
-  where
-    mul-le : (q a b : ℕ) → a ≤ b → q * a ≤ q * b
-    mul-le q a b h = le-trans (le-of-eq (mul-comm q a)) (le-trans (mul-le-mul-right q h) (le-of-eq (mul-comm b q)))
+quotient-le d b h = le-trans (le-of-eq (sym (mul-one (d / b)))) (le-trans (mul-le-mul-left (d / b) h) (div-mul-le-self d b))
 
 -- ---- the range: x from -700 to 700
 l-is : L ≡ fin false 6243314768165359 (negsuc 52)
@@ -217,32 +201,26 @@ end-is : round binary64 false (700 * 2 ^ 53) 6243314768165359 ≡ fin false 1110
 unfolding round
 end-is = refl
 
-module _ (m : ℕ) (e : ℤ) (h : m * up e ≤ 700 * down e) where
-  quotient : Float
-  quotient = round binary64 false (m * up e * 2 ^ 53) (6243314768165359 * down e)
+abbrev quotient : Bool → ℕ → ℤ → Float
+quotient s m e = round binary64 s (m * up e * 2 ^ 53) (6243314768165359 * down e)
 
-  positive-den : 0 < 6243314768165359 * down e
-  positive-den = mul-pos (lit< {m = 0} {n = 6243314768165359} tt) (down-pos e)
+small-quotient : (m : ℕ) (e : ℤ) → m * up e ≤ 700 * down e → T (atMost1010 (quotient false m e))
+small-quotient m e h = go (round-shape binary64 false (m * up e * 2 ^ 53) (6243314768165359 * down e))
+  where
+    den : 0 < 6243314768165359 * down e
+    den = mul-pos (lit< {m = 0} {n = 6243314768165359} tt) (down-pos e)
 
-  quotient-finite : finite (round binary64 false (m * up e * 2 ^ 53) (6243314768165359 * down e)) ≡ true
-  quotient-finite = small-finite (m * up e * 2 ^ 53) (6243314768165359 * down e) positive-den (omega arith)
+    most : T (le (quotient false m e) (fin false 1110381980954531 (negsuc 39)))
+    most =
+        subst (λ (x : Float). T (le (quotient false m e) x)) end-is
+        (round-mono binary64 (m * up e * 2 ^ 53) (6243314768165359 * down e) (700 * 2 ^ 53) 6243314768165359 den (lit< {m = 0} {n = 6243314768165359} tt) (omega arith))
 
-  quotient-le' : T (le (round binary64 false (m * up e * 2 ^ 53) (6243314768165359 * down e)) (fin false 1110381980954531 (negsuc 39)))
-  quotient-le' =
-      subst (λ (x : Float). T (le (round binary64 false (m * up e * 2 ^ 53) (6243314768165359 * down e)) x)) end-is
-      (round-mono binary64 (m * up e * 2 ^ 53) (6243314768165359 * down e) (700 * 2 ^ 53) 6243314768165359 positive-den (lit< {m = 0} {n = 6243314768165359} tt) (omega arith))
-
-  quotient-atMost1010 : T (atMost1010 (round binary64 false (m * up e * 2 ^ 53) (6243314768165359 * down e)))
-  quotient-atMost1010 = go (round-shape binary64 false (m * up e * 2 ^ 53) (6243314768165359 * down e))
-    where
-      go : (round binary64 false (m * up e * 2 ^ 53) (6243314768165359 * down e) ≡ inf false)
-          ⊎ ((n : ℕ) × (d : ℤ) × (round binary64 false (m * up e * 2 ^ 53) (6243314768165359 * down e) ≡ fin false n d))
-          → T (atMost1010 (round binary64 false (m * up e * 2 ^ 53) (6243314768165359 * down e)))
-      go (inl z) = never (sym (subst (λ (x : Float). finite x ≡ true) z quotient-finite))
-      go (inr z) =
-          subst (λ (x : Float). T (atMost1010 x)) (sym (z .2))
-          (le→leb (z .0 * up (z .1)) (1010 * down (z .1))
-          (omega (arith, le-sizes (z .0) (z .1) 1110381980954531 (negsuc 39) (subst (λ (x : Float). T (le x (fin false 1110381980954531 (negsuc 39)))) (z .2) quotient-le'))))
+    go : (quotient false m e ≡ inf false) ⊎ ((n : ℕ) × (d : ℤ) × (quotient false m e ≡ fin false n d)) → T (atMost1010 (quotient false m e))
+    go (inl z) = never (sym (ap finite (sym z) ∙ small-finite (m * up e * 2 ^ 53) (6243314768165359 * down e) den (omega arith)))
+    go (inr z) =
+        rw (z .2)
+        (le→leb (z .0 * up (z .1)) (1010 * down (z .1))
+        (omega (arith, le-sizes (z .0) (z .1) 1110381980954531 (negsuc 39) (subst (λ (x : Float). T (le x (fin false 1110381980954531 (negsuc 39)))) (z .2) most))))
 
 atMost1010-neg : (x : Float) → T (atMost1010 x) → T (atMost1010 (neg x))
 unfolding neg
@@ -250,25 +228,29 @@ atMost1010-neg nan t = t
 atMost1010-neg (inf s) t = t
 atMost1010-neg (fin s m e) t = t
 
-sized : (s : Bool) (m : ℕ) (e : ℤ) → m * up e ≤ 700 * down e → T (atMost1010 (round binary64 s (m * up e * 2 ^ 53) (6243314768165359 * down e)))
-sized false m e h = quotient-atMost1010 m e h
-sized true m e h = subst (λ (x : Float). T (atMost1010 x)) (round-neg binary64 false (m * up e * 2 ^ 53) (6243314768165359 * down e)) (atMost1010-neg _ (quotient-atMost1010 m e h))
+sized : (s : Bool) (m : ℕ) (e : ℤ) → m * up e ≤ 700 * down e → T (atMost1010 (quotient s m e))
+sized false m e h = small-quotient m e h
+sized true m e h = subst (λ (x : Float). T (atMost1010 x)) (round-neg binary64 false (m * up e * 2 ^ 53) (6243314768165359 * down e)) (atMost1010-neg _ (small-quotient m e h))
 
 -- 700 is 175 * 4
 abbrev hundreds : Bool → Float
 hundreds s = fin s 175 (pos 2)
 
-to-T : {b : Bool} → b ≡ true → T b
-to-T e = subst T (sym e) tt
+in-range : (s : Bool) (m : ℕ) (e : ℤ) → T (le (hundreds true) (fin s m e)) → T (le (fin s m e) (hundreds false)) → m * up e ≤ 700 * down e
+in-range false m e g h = le-trans (le-of-eq (sym (mul-one (m * up e)))) (le-sizes m e 175 (pos 2) h)
+in-range true m e g h = le-trans (le-of-eq (sym (mul-one (m * up e)))) (ge-sizes 175 (pos 2) m e g)
 
-in-range : (s : Bool) (m : ℕ) (e : ℤ) → le (hundreds true) (fin s m e) ≡ true → le (fin s m e) (hundreds false) ≡ true → m * up e ≤ 700 * down e
-in-range false m e g h = le-trans (le-of-eq (sym (mul-one (m * up e)))) (le-sizes m e 175 (pos 2) (to-T h))
-in-range true m e g h = le-trans (le-of-eq (sym (mul-one (m * up e)))) (ge-sizes 175 (pos 2) m e (to-T g))
+-- an x that the range's test lets through
+through : {A : Type 0} (a b : Bool) → (T a → T b → A) → _≡_ {A = Outcome Unit} (cond (a && b) (value tt) (refused 2)) (value tt) → A
+through true true k e = k tt tt
+through true false k e = absurd (no-value e)
+through false b k e = absurd (no-value e)
 
-pub quotient-small : (x : Float) → finite x ≡ true → le (hundreds true) x ≡ true → le x (hundreds false) ≡ true → T (atMost1010 (div binary64 x L))
-quotient-small nan f g h = never (sym f)
-quotient-small (inf s) f g h = never (sym f)
-quotient-small (fin s m e) f g h = rw (l-is, div-l s m e) (sized s m e (in-range s m e g h))
+pub quotient-small : (x : Float) → onlyRule (neg (float 700)) (float 700) x ≡ value tt → T (atMost1010 (div binary64 x L))
+unfolding neg ofInt round
+quotient-small nan h = absurd (no-value h)
+quotient-small (inf s) h = absurd (no-value h)
+quotient-small (fin s m e) h = rw (l-is, div-l s m e) (sized s m e (through (le (hundreds true) (fin s m e)) (le (fin s m e) (hundreds false)) (in-range s m e) h))
 
 pub small-is-finite : (q : Float) → T (atMost1010 q) → finite q ≡ true
 small-is-finite nan t = absurd t
@@ -283,27 +265,14 @@ pub signed-whole : (q : Float) → finite q ≡ true → withSign (lt q (fin fal
 unfolding nearestWhole lt
 signed-whole nan f = never (sym f)
 signed-whole (inf s) f = never (sym f)
-signed-whole (fin false m e) f = ap (λ (b : Bool). withSign b (closest (m * up e) (down e))) (no (ltb (m * up e * 1) (0 * down e)) (ltb→lt (m * up e * 1) (0 * down e)))
-  where
-    no : (b : Bool) → (T b → m * up e * 1 < 0 * down e) → b ≡ false
-    no true h = absurd (omega (arith, zero-mul (down e), h tt))
-    no false h = refl
+signed-whole (fin false m e) f = ap (λ (b : Bool). withSign b (closest (m * up e) (down e))) (le-ltb (m * up e * 1) (0 * down e) (omega arith))
 signed-whole (fin true zero e) f = rw (nothing e) (go (ltb 0 (zero * up e * 1 + 0 * down e)))
   where
     go : (b : Bool) → withSign b 0 ≡ withSign true 0
     go true = refl
     go false = refl
-signed-whole (fin true (suc m) e) f = ap (λ (b : Bool). withSign b (closest (suc m * up e) (down e))) (yes (ltb 0 (suc m * up e * 1 + 0 * down e)) (lt→ltb 0 (suc m * up e * 1 + 0 * down e) more))
-  where
-    more-of : (a b : ℕ) → 0 < a → 0 < a * 1 + b
-    more-of a b h = omega arith
-
-    more : 0 < suc m * up e * 1 + 0 * down e
-    more = more-of (suc m * up e) (0 * down e) (mul-pos (zero-lt-suc m) (up-pos e))
-
-    yes : (b : Bool) → T b → b ≡ true
-    yes true t = refl
-    yes false t = absurd t
+signed-whole (fin true (suc m) e) f =
+    ap (λ (b : Bool). withSign b (closest (suc m * up e) (down e))) (lt-ltb 0 (suc m * up e * 1 + 0 * down e) (omega (arith, mul-pos (zero-lt-suc m) (up-pos e))))
 
 -- ---- 2^k by its bits
 fits-up : (n : ℕ) → n ≤ 1010 → T (fits binary64 (fin false 1 (pos n)))
@@ -313,15 +282,8 @@ fits-up n h = lt→ltb (1 * 2 ^ n) (2 ^ 1024 * 1) (lt-of-le-of-lt (le-of-eq (one
 fits-down : (i : ℕ) → i < 1010 → T (fits binary64 (fin false 1 (negsuc i)))
 unfolding fits
 fits-down i h =
-    both (leb (2 ^ suc i) (2 ^ 1074)) (ltb 1 (2 ^ 1024 * 2 ^ suc i)) (le→leb (2 ^ suc i) (2 ^ 1074) (pow-mono {i = suc i} {j = 1074} (omega arith)))
-    (lt→ltb 1 (2 ^ 1024 * 2 ^ suc i) (lt-of-lt-of-le (lit< {m = 1} {n = 2 ^ 1024} tt) (le-trans (le-of-eq (sym (mul-one (2 ^ 1024)))) (grow (2 ^ 1024) (2 ^ suc i) (pow-pos (suc i))))))
-  where
-    both : (a b : Bool) → T a → T b → T (a && b)
-    both true b s t = t
-    both false b s t = absurd s
-
-    grow : (a b : ℕ) → 0 < b → a * 1 ≤ a * b
-    grow a b h = le-trans (le-of-eq (mul-comm a 1)) (le-trans (mul-le-mul-right a h) (le-of-eq (mul-comm b a)))
+    and-i (leb (2 ^ suc i) (2 ^ 1074)) (ltb 1 (2 ^ 1024 * 2 ^ suc i)) (le→leb (2 ^ suc i) (2 ^ 1074) (pow-mono {i = suc i} {j = 1074} (omega arith)))
+    (lt→ltb 1 (2 ^ 1024 * 2 ^ suc i) (lt-of-lt-of-le (lit< {m = 1} {n = 2 ^ 1024} tt) (le-trans (le-of-eq (sym (mul-one (2 ^ 1024)))) (mul-le-mul-left (2 ^ 1024) (pow-pos (suc i))))))
 
 shifted : (k : ℕ) → k * 2 ^ 52 + 2 ^ 52 ≡ (k + 1) * 2 ^ 52
 shifted k = omega arith
@@ -355,14 +317,14 @@ one-finite : finite (float 1) ≡ true
 unfolding ofInt round
 one-finite = refl
 
-pub exp-check : (x : Float) → finite (div binary64 x L) ≡ true
+pub exp-check : (x : Float) → onlyRule (neg (float 700)) (float 700) x ≡ value tt
     → expSteps x ≡ check (rawExp x (ofInt binary64 (nearestWhole (div binary64 x L))) (twoTo (nearestWhole (div binary64 x L))))
 unfolding expSteps rawExp
 exp-check x f =
     let k = nearestWhole (div binary64 x L) in
     let r = raw-sub-from x (raw-first (mul binary64) (ofInt binary64 k) L) in
     let s = raw-fold (λ _ _ j p. raw-add-from (float 1) (raw-by (float j) (r *ʳ p))) (raw-value (float 1) one-finite) from14 in
-    rw (check-kept (div binary64 x L) f) (raw-times (twoTo k) s .is)
+    rw (check-kept (div binary64 x L) (small-is-finite (div binary64 x L) (quotient-small x f))) (raw-times (twoTo k) s .is)
 
 -- ---- by sign
 pub minus-number : (n : ℕ) → (n ≡ 0 → ⊥) → neg (ofInt binary64 (pos n)) ≡ ofInt binary64 (negℤ (pos n))

@@ -4,13 +4,7 @@ pub mod Usual
 pub mod Squares
 pub mod Rounds
 pub mod Fields
-pub mod Digits
-pub mod Whole
-pub mod Signs
-pub mod Logs
 pub mod Exps
-pub mod Meaning
 pub mod Points
-pub mod Raw
 pub mod Formulas
 pub mod Unique

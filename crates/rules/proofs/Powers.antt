@@ -72,10 +72,25 @@ higher (suc k) true r a h e = rw (eqb-true h 0 e) (sym (zeros (λ r. r) (suc k) 
 higher (suc k) false r a h e = higher k (eqb (h / 2) 0) (times (odd h) r (mul binary64 a a)) (mul binary64 a a) (h / 2) refl
 
 -- with no look at r
+pub lowest-bits : (k : ℕ) (r a : Float) (n : ℕ) → overBits (λ r. r) r a (lowest (suc k) n) ≡ rawByBits k r a n
+unfolding overBits lowest
+lowest-bits k r a n = sym (higher k (eqb (n / 2) 0) (times (odd n) r a) a (n / 2) refl)
+
 pub by-bits : (k : ℕ) (r a : Float) (n : ℕ) → n < 2 ^ suc k → overBits (λ r. r) r a (bits n) ≡ rawByBits k r a n
-by-bits k r a n h =
-    enough (λ r. r) (size n) (suc k) r a n (size-lt n) h
-    ∙ unfold overBits lowest in sym (higher k (eqb (n / 2) 0) (times (odd n) r a) a (n / 2) refl)
+by-bits k r a n h = enough (λ r. r) (size n) (suc k) r a n (size-lt n) h ∙ lowest-bits k r a n
+
+-- ---- one call of the code: no higher bit remains, or from its half on
+pub last : (f : Float → Float) (k : ℕ) (r x : Float) (n : ℕ) → n / 2 ≡ 0 → overBits f r x (lowest (suc k) n) ≡ taken f (odd n) r x
+unfolding overBits lowest
+last f k r x n h = rw h (zeros f k (taken f (odd n) r x) (mul binary64 x x))
+
+pub more : (f : Float → Float) (k : ℕ) (r x out : Float) (n : ℕ) → (n / 2 ≡ 0 → ⊥) → n < 2 ^ suc k
+    → ((j : ℕ) → n / 2 < 2 ^ suc j → out ≡ overBits f (taken f (odd n) r x) (mul binary64 x x) (lowest (suc j) (n / 2))) → out ≡ overBits f r x (lowest (suc k) n)
+unfolding overBits lowest
+more f zero r x out n h l e = absurd (h (omega arith))
+more f (suc k) r x out n h l e =
+    let half : n / 2 < 2 ^ suc k = let p : 2 ^ suc (suc k) ≡ 2 ^ suc k * 2 = pow-suc 2 (suc k) in omega arith in
+    e k half
 
 -- ---- the law
 

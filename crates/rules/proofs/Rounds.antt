@@ -1,10 +1,11 @@
--- Facts of `round` that the logarithm and the exponential share: a sign goes through it, and a small fraction stays finite. Assumes nothing.
+-- Facts of rounding that the exponential, the logarithm and the root share: a sign goes through `round`, a small fraction stays finite, what comparisons say. Assumes nothing.
 use mathlib.Core.Path.{_≡_, refl, sym, ap, _∙_, subst}
 use mathlib.Core.Logic.{_⊎_, inl, inr}
-use Prim.Native.Nat.{ℕ, zero, suc, _+_, _-_, _*_, _/_, _%_, _^_, _≤_, _<_, compare}
+use Prim.Native.Nat.{ℕ, zero, suc, _+_, _-_, _*_, _/_, _%_, _^_, _≤_, _<_, compare, Ordering, Ordering·lt, Ordering·eq, Ordering·gt}
 use native.Mathlib.Nat.{le-trans, le-of-eq, le-of-lt, zero-lt-suc, mul-one, mul-right-comm, eq-of-mul-eq-mul-right}
 use mathlib.Core.Bool.{Bool, true, false, not, _&&_, _||_, cond}
-use lib.Dec.{T, ltb, eqb, ltb→lt, eqb→eq}
+use lib.Dec.{T, isLe, isEq, ltb, eqb, leb→le, nleb→lt, ltb→lt, eqb→eq, eqb-refl}
+use lib.Arith.{lt-of-le-ne}
 use lib.IntN.{ℤ}
 use lib.Ieee.{Float, nan, inf, fin, Format, binary64, prec, low, emax, up, down, size, nearest, odd, units, round, neg, le, lt, eq}
 use lib.Ieee.Order.{round-mono}
@@ -32,58 +33,7 @@ round-neg f s a c =
     let u = c * 2 ^ k in
     neg-units f s (nearest (n / u) (compare (n % u * 2) u)) k
 
--- ---- finite, or an infinity of the sign
-
-odd-finite : (d : ℕ) (s : Bool) (q k l : ℕ) → finite (odd d s q k l) ≡ true
-unfolding odd
-odd-finite d s zero k l = refl
-odd-finite d s (suc q) k l = refl
-
-units-finite : (f : Format) (s : Bool) (q k : ℕ) → (units f s q k ≡ inf s) ⊎ (finite (units f s q k) ≡ true)
-unfolding units
-units-finite f s q k = go (ltb (q * 2 ^ k) (2 ^ (low f + suc (emax f))))
-  where
-    go : (b : Bool) → (cond b (odd (suc (prec f)) s q k (low f)) (inf s) ≡ inf s) ⊎ (finite (cond b (odd (suc (prec f)) s q k (low f)) (inf s)) ≡ true)
-    go true = inr (odd-finite (suc (prec f)) s q k (low f))
-    go false = inl refl
-
-round-finite : (f : Format) (s : Bool) (a c : ℕ) → (round f s a c ≡ inf s) ⊎ (finite (round f s a c) ≡ true)
-unfolding round
-round-finite f s a c =
-    let n = a * 2 ^ low f in
-    let k = size (n / c) - prec f in
-    let u = c * 2 ^ k in
-    units-finite f s (nearest (n / u) (compare (n % u * 2) u)) k
-
-not-below : T (le (inf false) (round binary64 false 2048 1)) → ⊥
-unfolding le lt eq round
-not-below t = t
-
-pub small-finite : (a c : ℕ) → 0 < c → a ≤ 2048 * c → finite (round binary64 false a c) ≡ true
-small-finite a c C h = go (round-finite binary64 false a c)
-  where
-    l : T (le (round binary64 false a c) (round binary64 false 2048 1))
-    l = round-mono binary64 a c 2048 1 C (zero-lt-suc 0) (le-trans (le-of-eq (mul-one a)) h)
-
-    go : (round binary64 false a c ≡ inf false) ⊎ (finite (round binary64 false a c) ≡ true) → finite (round binary64 false a c) ≡ true
-    go (inl e) = absurd (not-below (subst (λ (x : Float). T (le x (round binary64 false 2048 1))) e l))
-    go (inr e) = e
-
--- ---- from one fraction to another of the same size
-pub rescale : (x : Float) (s : Bool) (w l num den : ℕ) → 0 < l → num * l ≡ w * den → HasValue x s w l → HasValue x s num den
-rescale nan s w l num den p h v = v
-rescale (inf t) s w l num den p h v = v
-rescale (fin t m e) s w l num den p h v = (
-  v .0,
-  eq-of-mul-eq-mul-right l p (m * up e * den) (num * down e)
-      (mul-right-comm (m * up e) den l
-      ∙ ap (λ (x : ℕ). x * den) (v .1)
-      ∙ mul-right-comm w (down e) den
-      ∙ ap (λ (x : ℕ). x * down e) (sym h)
-      ∙ mul-right-comm num l (down e)),
-)
-
--- ---- a finite result has the sign
+-- ---- finite, with the sign, or the infinity of the sign
 odd-shape : (d : ℕ) (s : Bool) (q k l : ℕ) → (m : ℕ) × (e : ℤ) × (odd d s q k l ≡ fin s m e)
 unfolding odd
 odd-shape d s zero k l = (_, _, refl)
@@ -105,27 +55,66 @@ round-shape f s a c =
     let u = c * 2 ^ k in
     units-shape f s (nearest (n / u) (compare (n % u * 2) u)) k
 
+-- ---- a small fraction is finite
+not-below : T (le (inf false) (round binary64 false 2048 1)) → ⊥
+unfolding le lt eq round
+not-below t = t
+
+pub small-finite : (a c : ℕ) → 0 < c → a ≤ 2048 * c → finite (round binary64 false a c) ≡ true
+small-finite a c C h = go (round-shape binary64 false a c)
+  where
+    l : T (le (round binary64 false a c) (round binary64 false 2048 1))
+    l = round-mono binary64 a c 2048 1 C (zero-lt-suc 0) (le-trans (le-of-eq (mul-one a)) h)
+
+    go : (round binary64 false a c ≡ inf false) ⊎ ((m : ℕ) × (e : ℤ) × (round binary64 false a c ≡ fin false m e)) → finite (round binary64 false a c) ≡ true
+    go (inl e) = absurd (not-below (subst (λ (x : Float). T (le x (round binary64 false 2048 1))) e l))
+    go (inr z) = ap finite (z .2)
+
+-- ---- from one fraction to another of the same size
+pub rescale : (x : Float) (s : Bool) (w l num den : ℕ) → 0 < l → num * l ≡ w * den → HasValue x s w l → HasValue x s num den
+rescale nan s w l num den p h v = v
+rescale (inf t) s w l num den p h v = v
+rescale (fin t m e) s w l num den p h v = (
+  v .0,
+  eq-of-mul-eq-mul-right l p (m * up e * den) (num * down e)
+      (mul-right-comm (m * up e) den l
+      ∙ ap (λ (x : ℕ). x * den) (v .1)
+      ∙ mul-right-comm w (down e) den
+      ∙ ap (λ (x : ℕ). x * down e) (sym h)
+      ∙ mul-right-comm num l (down e)),
+)
+
 -- ---- what `le` says of two numbers that are not negative, and of two that are not positive
-or-le : (a b : ℕ) (c : Bool) → T (ltb a b || (eqb a b && c)) → a ≤ b
-or-le a b c = go (ltb a b) (eqb a b) (ltb→lt a b) (eqb→eq a b)
+either : {A : Type 0} (x y c : Bool) → (T x → A) → (T y → A) → T (x || (y && c)) → A
+either true y c f g t = f tt
+either false true c f g t = g tt
+either false false c f g t = absurd t
+
+module _ (m : ℕ) (e : ℤ) (n : ℕ) (d : ℤ) where
+  pub le-sizes : T (le (fin false m e) (fin false n d)) → m * up e * down d ≤ n * up d * down e
+  unfolding le lt eq
+  le-sizes =
+      let a = m * up e * down d in
+      let b = n * up d * down e in
+      either (ltb a b) (eqb a b) true (λ l. le-of-lt (ltb→lt a b l)) (λ q. le-of-eq (eqb→eq a b q))
+
+  pub ge-sizes : T (le (fin true m e) (fin true n d)) → n * up d * down e ≤ m * up e * down d
+  unfolding le lt eq
+  ge-sizes =
+      let a = m * up e * down d in
+      let b = n * up d * down e in
+      either (ltb b a) (eqb a b) true (λ l. le-of-lt (ltb→lt b a l)) (λ q. le-of-eq (sym (eqb→eq a b q)))
+
+-- ---- what `compare` says
+abbrev pub Cmp : Ordering → ℕ → ℕ → Type 0
+Cmp Ordering·lt a b = a < b
+Cmp Ordering·eq a b = a ≡ b
+Cmp Ordering·gt a b = b < a
+
+pub cmp : (a b : ℕ) → Cmp (compare a b) a b
+cmp a b = go (compare a b) (leb→le a b) (nleb→lt a b) (eqb→eq a b) (λ (e : a ≡ b). subst (λ (x : ℕ). T (eqb a x)) e (eqb-refl a))
   where
-    go : (x y : Bool) → (T x → a < b) → (T y → a ≡ b) → T (x || (y && c)) → a ≤ b
-    go true y l e t = le-of-lt (l tt)
-    go false true l e t = le-of-eq (e tt)
-    go false false l e t = absurd t
-
-pub le-sizes : (m : ℕ) (e : ℤ) (n : ℕ) (d : ℤ) → T (le (fin false m e) (fin false n d)) → m * up e * down d ≤ n * up d * down e
-unfolding le lt eq
-le-sizes m e n d t = or-le (m * up e * down d) (n * up d * down e) true t
-
-or-ge : (a b : ℕ) → T (ltb b a || (eqb a b && true)) → b ≤ a
-or-ge a b = go (ltb b a) (eqb a b) (ltb→lt b a) (eqb→eq a b)
-  where
-    go : (x y : Bool) → (T x → b < a) → (T y → a ≡ b) → T (x || (y && true)) → b ≤ a
-    go true y l e t = le-of-lt (l tt)
-    go false true l e t = le-of-eq (sym (e tt))
-    go false false l e t = absurd t
-
-pub ge-sizes : (m : ℕ) (e : ℤ) (n : ℕ) (d : ℤ) → T (le (fin true m e) (fin true n d)) → n * up d * down e ≤ m * up e * down d
-unfolding le lt eq
-ge-sizes m e n d t = or-ge (m * up e * down d) (n * up d * down e) t
+    go : (o : Ordering) → (T (isLe o) → a ≤ b) → (T (not (isLe o)) → b < a) → (T (isEq o) → a ≡ b) → (a ≡ b → T (isEq o)) → Cmp o a b
+    go Ordering·lt h k e n = lt-of-le-ne (h tt) n
+    go Ordering·eq h k e n = e tt
+    go Ordering·gt h k e n = k tt

@@ -6,12 +6,6 @@ use Rattle.rules.proofs as rules
 pub power-one : One 0 rules.powi.power.Kinds.ps rules.powi.power.Kinds.r rules.powi.power.Reads.Post
 power-one κs a e x y p q = same-answer _ x y p q
 
-pub root-one : One 0 rules.sqrt.root.Kinds.ps rules.sqrt.root.Kinds.r rules.sqrt.root.Reads.Post
-root-one κs a e x y p q = same-answer _ x y p q
-
-pub logarithm-one : One 0 rules.ln.logarithm.Kinds.ps rules.ln.logarithm.Kinds.r rules.ln.logarithm.Reads.Post
-logarithm-one κs a e x y p q = same-answer _ x y p q
-
 pub exponential-one : One 0 rules.exp.exponential.Kinds.ps rules.exp.exponential.Kinds.r rules.exp.exponential.Reads.Post
 exponential-one κs a e x y p q = same-answer _ x y p q
 
@@ -23,12 +17,6 @@ bare-power-one κs a e x y p q = p ∙ sym q
 
 pub raw-power-one : One 0 rules.powi.raw_power.Kinds.ps rules.powi.raw_power.Kinds.r rules.powi.raw_power.Reads.Post
 raw-power-one κs a e x y p q = p ∙ sym q
-
-pub raw-root-one : One 0 rules.sqrt.raw_root.Kinds.ps rules.sqrt.raw_root.Kinds.r rules.sqrt.raw_root.Reads.Post
-raw-root-one κs a e x y p q = p ∙ sym q
-
-pub raw-logarithm-one : One 0 rules.ln.raw_logarithm.Kinds.ps rules.ln.raw_logarithm.Kinds.r rules.ln.raw_logarithm.Reads.Post
-raw-logarithm-one κs a e x y p q = p ∙ sym q
 
 pub raw-exponential-one : One 0 rules.exp.raw_exponential.Kinds.ps rules.exp.raw_exponential.Kinds.r rules.exp.raw_exponential.Reads.Post
 raw-exponential-one κs a e x y p q = p ∙ sym q

@@ -1,14 +1,24 @@
--- To believe: the exponential's rule (docs/SCOPE.md, the four written rules), in the written order of rounded operations. In order: the nearest whole number,
--- 2^k, the steps, and the rule. Assumes nothing: these are definitions.
-use Prim.Native.Nat.{ℕ, _*_, _/_, _%_, compare}
+-- To believe: the exponential's rule (docs/SCOPE.md, the four written rules), in the written order of rounded operations. In order: its numbers, the nearest
+-- whole number, 2^k, the steps, and the rule. Assumes nothing: these are definitions.
+use Prim.Native.Nat.{ℕ, _*_, _/_, _%_, _^_, compare}
 use mathlib.Core.Bool.{Bool, true, false}
 use mathlib.Core.List.{List, [], _∷_, foldl}
 use lib.IntN.{ℤ, pos, negℤ}
-use lib.Ieee.{Float, nan, inf, fin, binary64, up, down, nearest, neg, ofInt}
+use lib.Ieee.{Float, nan, inf, fin, binary64, up, down, nearest, neg, round, ofInt}
 use Rattle.common.specs.Formula.{_⊕_, _⊖_, _⊗_, _⊘_}
 use Rattle.common.specs.Outcome.{Outcome, value, then}
 use Rattle.common.specs.Range.{onlyRule}
-use Rattle.rules.specs.Log.{float, number, L}
+
+-- a whole number
+abbrev pub float : ℕ → Float
+float n = ofInt binary64 (pos n)
+
+abbrev pub number : ℕ → Outcome Float
+number n = value (float n)
+
+-- L = 0.6931471805599453, the decimal rounded once: the f64 nearest ln 2
+unfoldable pub L : Float
+L = round binary64 false 6931471805599453 (10 ^ 16)
 
 -- the whole number nearest to the size of x, m * 2^e: its whole part, or one more, by how twice the rest compares with 1, and at a tie the even one
 abbrev pub wholeSize : Float → ℕ

@@ -1,9 +1,5 @@
 pub mod Power
 pub mod RawPower
-pub mod Units
-pub mod Root
-pub mod Log
-pub mod RawLog
 pub mod Exp
 pub mod RawExp
 pub mod Formula

@@ -5,8 +5,7 @@ use mathlib.Core.Bool.{Bool, false}
 use mathlib.Core.List.{foldl}
 use lib.Dec.{leb}
 use lib.Ieee.{Float, nan, inf, fin, binary64, up, down, add, sub, mul, div}
-use Rattle.rules.specs.Log.{float, L}
-use Rattle.rules.specs.Exp.{from14}
+use Rattle.rules.specs.Exp.{float, L, from14}
 
 -- s as the last turn leaves it
 abbrev pub rawTurns : Float → Float

@@ -1,7 +1,7 @@
 // exp x: with k the whole number nearest x/L and r = x - k*L, a series in r gives exp r, and that times 2^k is exp x. L is the f64 nearest ln 2.
 use common::Answer;
-use common::Refusal;
-use common::is_finite;
+use common::Verdict;
+use common::check_only;
 use common::or_nan;
 use common::settle;
 ghost use mathlib.Core.Path.{_≡_};
@@ -24,10 +24,9 @@ fn nearest_whole(q: f64) -> u64
         return 0;
     }
     let d = b % 0x10_0000_0000_0000 + 0x10_0000_0000_0000;
-    let places = 1075 - field;
-    let one: u64 = 1 << places;
-    let w = d >> places;
-    let rest = (d - w * one) * 2;
+    let one: u64 = 1 << (1075 - field);
+    let w = d / one;
+    let rest = d % one * 2;
     if rest < one {
         w
     } else if rest > one {
@@ -86,21 +85,14 @@ fn exp_steps(x: f64, k: f64, p: f64) -> f64
 pub fn exponential(x: f64) -> Answer
     ensures { λ r. ⌜ paper r ≡ exponentialRule x ⌝ }
 {
-    if is_finite(x) {
-        if -700.0 <= x {
-            if x <= 700.0 {
-                let q = x / 0.6931471805599453;
-                let n = nearest_whole(q);
-                let below = q < 0.0;
-                settle(exp_steps(x, signed_number(below, n), two_to(below, n)))
-            } else {
-                Answer::Refused(Refusal::First)
-            }
-        } else {
-            Answer::Refused(Refusal::First)
+    match check_only(x, -700.0, 700.0) {
+        Verdict::Accepted => {
+            let q = x / 0.6931471805599453;
+            let n = nearest_whole(q);
+            let below = q < 0.0;
+            settle(exp_steps(x, signed_number(below, n), two_to(below, n)))
         }
-    } else {
-        Answer::Refused(Refusal::NotFinite)
+        Verdict::Refused(k) => Answer::Refused(k),
     }
 }
 

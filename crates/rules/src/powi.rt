@@ -13,7 +13,7 @@ ghost use Rattle.common.specs.Outcome.{orNan};
 ghost use Rattle.common.specs.Answer.{paper};
 ghost use Rattle.sizes.specs.Lost.{looked};
 ghost use Rattle.rules.specs.Power.{lowest, powerRule};
-ghost use Rattle.rules.specs.RawPower.{overBits, rawByBits, rawPower, lookedPower};
+ghost use Rattle.rules.specs.RawPower.{overBits, rawPower, lookedPower};
 
 pub fn magnitude(n: i32) -> u32
     ensures { λ r. ⌜ r ≡ natAbs n ⌝ }
@@ -23,7 +23,7 @@ pub fn magnitude(n: i32) -> u32
 
 // r times a to the n: where n's lowest bit is set r becomes r*a, and while higher bits remain a becomes a*a.
 fn by_bits(r: f64, a: f64, n: u32) -> f64
-    ensures { λ out. ⌜ ((k : ℕ) → n < 2 ^ suc k → out ≡ rawByBits k r a n) ⌝ }
+    ensures { λ out. ⌜ ((k : ℕ) → n < 2 ^ suc k → out ≡ overBits (λ r. r) r a (lowest (suc k) n)) ⌝ }
 {
     let s = if n % 2 == 1 { r * a } else { r };
     let h = n / 2;

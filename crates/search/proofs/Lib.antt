@@ -1,4 +1,2 @@
 pub mod Laws
-pub mod Answered
-pub mod TdRecord
 pub mod Unique

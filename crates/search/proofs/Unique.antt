@@ -7,18 +7,7 @@ use Rattle.record.specs.declared.Record.{Record}
 use Rattle.place.proofs.Unique.{same-found}
 use Rattle.search.specs.Calls.{SearchedReport, paperSearched}
 use Rattle.search.specs.declared.SearchedRecord.{SearchedRecord}
-use Rattle.search.proofs.calls.pv2T_reg3.Kinds as pv2T-reg3-kinds
-use Rattle.search.proofs.calls.pv2T_reg3.Reads as pv2T-reg3
-use Rattle.search.proofs.calls.Th2d_reg3.Kinds as Th2d-reg3-kinds
-use Rattle.search.proofs.calls.Th2d_reg3.Reads as Th2d-reg3
-use Rattle.search.proofs.calls.Ts2d_reg3.Kinds as Ts2d-reg3-kinds
-use Rattle.search.proofs.calls.Ts2d_reg3.Reads as Ts2d-reg3
-use Rattle.search.proofs.calls.pv_reg3.Kinds as pv-reg3-kinds
-use Rattle.search.proofs.calls.pv_reg3.Reads as pv-reg3
-use Rattle.search.proofs.calls.Th_reg3.Kinds as Th-reg3-kinds
-use Rattle.search.proofs.calls.Th_reg3.Reads as Th-reg3
-use Rattle.search.proofs.calls.Ts_reg3.Kinds as Ts-reg3-kinds
-use Rattle.search.proofs.calls.Ts_reg3.Reads as Ts-reg3
+use Rattle.search.proofs as own
 
 together : (v w : Verdict) (r s : Record) (m n : ℕ) → v ≡ w → r ≡ s → m ≡ n → _≡_ {A = SearchedRecord} (record { verdict = v; «record» = r; trials = m }) (record { verdict = w; «record» = s; trials = n })
 together v w r s m n e f g = cc
@@ -30,20 +19,20 @@ same-searched o a b p q =
     (cc (ap (λ (z : SearchedReport). z .state) p, ap (λ (z : SearchedReport). z .state) q))
     (cc (ap (λ (z : SearchedReport). z .trials) p, ap (λ (z : SearchedReport). z .trials) q))
 
-pub pv2T-reg3-one : One 0 pv2T-reg3-kinds.ps pv2T-reg3-kinds.r pv2T-reg3.Post
+pub pv2T-reg3-one : One 0 own.calls.pv2T_reg3.Kinds.ps own.calls.pv2T_reg3.Kinds.r own.calls.pv2T_reg3.Reads.Post
 pv2T-reg3-one κs a e x y p q = same-found _ x y p q
 
-pub Th2d-reg3-one : One 0 Th2d-reg3-kinds.ps Th2d-reg3-kinds.r Th2d-reg3.Post
+pub Th2d-reg3-one : One 0 own.calls.Th2d_reg3.Kinds.ps own.calls.Th2d_reg3.Kinds.r own.calls.Th2d_reg3.Reads.Post
 Th2d-reg3-one κs a e x y p q = same-found _ x y p q
 
-pub Ts2d-reg3-one : One 0 Ts2d-reg3-kinds.ps Ts2d-reg3-kinds.r Ts2d-reg3.Post
+pub Ts2d-reg3-one : One 0 own.calls.Ts2d_reg3.Kinds.ps own.calls.Ts2d_reg3.Kinds.r own.calls.Ts2d_reg3.Reads.Post
 Ts2d-reg3-one κs a e x y p q = same-found _ x y p q
 
-pub pv-reg3-one : One 0 pv-reg3-kinds.ps pv-reg3-kinds.r pv-reg3.Post
+pub pv-reg3-one : One 0 own.calls.pv_reg3.Kinds.ps own.calls.pv_reg3.Kinds.r own.calls.pv_reg3.Reads.Post
 pv-reg3-one κs a e x y p q = same-searched _ x y p q
 
-pub Th-reg3-one : One 0 Th-reg3-kinds.ps Th-reg3-kinds.r Th-reg3.Post
+pub Th-reg3-one : One 0 own.calls.Th_reg3.Kinds.ps own.calls.Th_reg3.Kinds.r own.calls.Th_reg3.Reads.Post
 Th-reg3-one κs a e x y p q = same-searched _ x y p q
 
-pub Ts-reg3-one : One 0 Ts-reg3-kinds.ps Ts-reg3-kinds.r Ts-reg3.Post
+pub Ts-reg3-one : One 0 own.calls.Ts_reg3.Kinds.ps own.calls.Ts_reg3.Kinds.r own.calls.Ts_reg3.Reads.Post
 Ts-reg3-one κs a e x y p q = same-searched _ x y p q

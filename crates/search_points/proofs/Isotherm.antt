@@ -7,10 +7,10 @@ use lib.Ieee.{Float, nan, round, neg, add, sub, sum, mul, div, ofInt, le, lt, eq
 use Rattle.common.specs.Decimal.{scaled, decimal, whole, plus, minus}
 use Rattle.common.specs.Outcome.{Outcome, value, refused, zeroF}
 use Rattle.common.specs.Sum.{total}
-use Rattle.rules.specs.Units.{inUnits}
+use Rattle.inverses.specs.Units.{inUnits}
 use Rattle.rules.specs.Power.{powerRule, byBits, lowest}
-use Rattle.rules.specs.Root.{rootRule, nearestRoot, wholeRoot}
-use Rattle.rules.specs.Log.{logarithmRule, lnOf, lnSteps, L}
+use Rattle.inverses.specs.Root.{rootRule, nearestRoot, wholeRoot}
+use Rattle.inverses.specs.Log.{logarithmRule, lnOf, lnSteps, L}
 use Rattle.rules.specs.Exp.{exponentialRule, expSteps, nearestWhole}
 use Rattle.algo.specs.Table.{sumRule}
 use Rattle.algo.specs.Joint.{shareRule}
@@ -19,7 +19,9 @@ use Rattle.r4.specs.Saturation.{p-saturation, T-saturation}
 use Rattle.boundaries.specs.Boundary.{walkRule, rowAt, table, straight3ef}
 use Rattle.boundary.specs.Choice.{letterAt, abRule, cdefRule, chijkRule, clmnopjkRule, nearRule, cq-rkRule, csrkRule, cstRule, ctRule, limit}
 use Rattle.volume.specs.Equation.{volumeAt, volumeBy}
-use Rattle.volume.specs.Volumes.{originAt, volumeFrom, pT2v-at}
+use Rattle.origin.specs.Origin.{originAt}
+use Rattle.volume.specs.State.{volumeFrom}
+use Rattle.volume_at.specs.Volumes.{pT2v-at}
 use Rattle.border.specs.Border.{B23-T2p, B23-p2T}
 use Rattle.printed.specs.Table30.{table30}
 use Rattle.helmholtz.specs.Hfe.{slope, phi, phi-delta, phi-deltadelta, share, joint-phi, joint-delta, four-delta, four-deltadelta}

@@ -1,2 +1,5 @@
+pub mod Trials
+pub mod Answered
+pub mod TdRecord
 pub mod Pressure
 pub mod Isotherm

@@ -7,10 +7,10 @@ use lib.Ieee.{Float, nan, round, neg, add, sub, sum, mul, div, ofInt, le, lt, eq
 use Rattle.common.specs.Decimal.{scaled, decimal, whole, plus, minus}
 use Rattle.common.specs.Outcome.{Outcome, value, refused, zeroF}
 use Rattle.common.specs.Sum.{total}
-use Rattle.rules.specs.Units.{inUnits}
+use Rattle.inverses.specs.Units.{inUnits}
 use Rattle.rules.specs.Power.{powerRule, byBits, lowest}
-use Rattle.rules.specs.Root.{rootRule, nearestRoot, wholeRoot}
-use Rattle.rules.specs.Log.{logarithmRule, lnOf, lnSteps, L}
+use Rattle.inverses.specs.Root.{rootRule, nearestRoot, wholeRoot}
+use Rattle.inverses.specs.Log.{logarithmRule, lnOf, lnSteps, L}
 use Rattle.rules.specs.Exp.{exponentialRule, expSteps, nearestWhole}
 use Rattle.algo.specs.Table.{sumRule}
 use Rattle.algo.specs.Joint.{shareRule}

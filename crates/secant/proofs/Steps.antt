@@ -24,10 +24,6 @@ step-is s e = raw-by e (raw-times (s .f) (raw-first (sub binary64) (s .xl) (s .x
 
 -- ---- the trials that are left, after k of them
 
-then-same : {A B : Type 0} (o : Outcome A) (f g : A → Outcome B) → ((a : A) → f a ≡ g a) → then o f ≡ then o g
-then-same (value a) f g h = h a
-then-same (refused k) f g h = refl
-
 abbrev pub proposalWith : ℕ → Float → List Float → Outcome Proposal
 proposalWith k x xs = value (record { x = lastOr x xs; trials = k + length xs })
 
@@ -37,9 +33,13 @@ onward curve y n k s = then (trialsFrom curve y n s) (proposalWith k (s .x))
 counted : (x : Float) (j k : ℕ) → j ≡ k → _≡_ {A = Outcome Proposal} (value (record { x = x; trials = j })) (value (record { x = x; trials = k }))
 counted x j k e = ap (λ (n : ℕ). value (record { x = x; trials = n })) e
 
+none-before : (o : Outcome (List Float)) (x : Float) → then o (λ xs. value (record { x = lastOr x xs; trials = length xs })) ≡ then o (proposalWith 0 x)
+none-before (value xs) x = counted _ _ _ (omega arith)
+none-before (refused k) x = refl
+
 pub onward-first : (curve : Curve) (y : Float) (s : Secant) → proposalFrom curve y s ≡ onward curve y MAX-ITER 0 s
 unfolding proposalFrom onward
-onward-first curve y s = then-same (trialsFrom curve y MAX-ITER s) _ _ (λ xs. counted _ _ _ (omega arith))
+onward-first curve y s = none-before (trialsFrom curve y MAX-ITER s) (s .x)
 
 -- none is left
 pub onward-none : (curve : Curve) (y : Float) (k : ℕ) (s : Secant) → onward curve y 0 k s ≡ value (record { x = s .x; trials = k })

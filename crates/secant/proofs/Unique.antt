@@ -5,8 +5,7 @@ use Rattle.common.proofs.Same.{One, same, kindOf, kind-number}
 use Rattle.secant.specs.Secant.{Proposal, paperProposal}
 use Rattle.secant.specs.declared.ProposalAnswer.{ProposalAnswer}
 use Rattle.secant.specs.declared.ProposalAnswer.the-variants as proposals
-use Rattle.secant.proofs.rtsec.Kinds as rtsec-kinds
-use Rattle.secant.proofs.rtsec.Reads as rtsec
+use Rattle.secant.proofs as own
 
 proposalOf : Outcome Proposal → ProposalAnswer
 proposalOf (value q) = proposals.Value (q .x) (q .trials)
@@ -17,5 +16,5 @@ unfolding proposalOf
 proposal-back (proposals.Value x n) = refl
 proposal-back (proposals.Refused k) = ap proposals.Refused (kind-number k)
 
-pub rtsec-one : One 0 rtsec-kinds.ps rtsec-kinds.r rtsec.Post
+pub rtsec-one : One 0 own.rtsec.Kinds.ps own.rtsec.Kinds.r own.rtsec.Reads.Post
 rtsec-one κs a e x y p q = same paperProposal proposalOf proposal-back _ x y p q

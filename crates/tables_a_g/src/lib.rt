@@ -1,17 +1,14 @@
 // Tables of S05rev by column, and the sum of each.
-use algo::Order;
-use algo::both_usual;
-use algo::checked_once;
-use algo::plain_sum;
-use polynomial::raw_sum;
-use powers::fill_bare;
+use table_sums::bare_sum;
+use table_sums::both_usual;
+use table_sums::rule_sum;
 ghost use mathlib.Core.Path.{_≡_};
 ghost use Rattle.common.specs.Outcome.{orNan};
 ghost use Rattle.algo.specs.Table.{sumRule, term};
 ghost use Rattle.printed.specs.Volumes.{table3a, table3b, table3c, table3d, table3e, table3f, table3g};
 
 // v3a(p,T)
-const I3A: [i32; 30] = [
+const I3A: [i32; 43] = [
     -12,
     -12,
     -12,
@@ -42,9 +39,22 @@ const I3A: [i32; 30] = [
     1,
     2,
     2,
+    0,
+    0,
+    0,
+    0,
+    0,
+    0,
+    0,
+    0,
+    0,
+    0,
+    0,
+    0,
+    0,
 ];
 
-const J3A: [i32; 30] = [
+const J3A: [i32; 43] = [
     5,
     10,
     12,
@@ -75,9 +85,22 @@ const J3A: [i32; 30] = [
     2,
     0,
     2,
+    0,
+    0,
+    0,
+    0,
+    0,
+    0,
+    0,
+    0,
+    0,
+    0,
+    0,
+    0,
+    0,
 ];
 
-const N3A: [f64; 30] = [
+const N3A: [f64; 43] = [
     0.110879558823853e-2,
     0.572616740810616e3,
     -0.767051948380852e5,
@@ -108,29 +131,32 @@ const N3A: [f64; 30] = [
     -0.369645308193377,
     0.633828037528420e-2,
     0.797441793901017e-1,
+    0.0,
+    0.0,
+    0.0,
+    0.0,
+    0.0,
+    0.0,
+    0.0,
+    0.0,
+    0.0,
+    0.0,
+    0.0,
+    0.0,
+    0.0,
 ];
 
 pub fn sum_a(x: f64, y: f64) -> f64
     ensures { λ r. ⌜ r ≡ orNan (sumRule term x y table3a) ⌝ }
 {
     if both_usual(x, y) {
-        let mut wi = [0.0; 129];
-        let mut wj = [0.0; 129];
-        let is = I3A;
-        let js = J3A;
-        let ns = N3A;
-        fill_bare(x, 2, 12, &mut wi);
-        fill_bare(y, 12, 0, &mut wj);
-        return checked_once(plain_sum(&wi, &wj, &is, &js, &ns));
+        return bare_sum(x, 2, 12, y, 12, 0, 30, I3A, J3A, N3A);
     }
-    let is = I3A;
-    let js = J3A;
-    let ns = N3A;
-    raw_sum(Order::Zero, Order::Zero, x, y, &is, &js, &ns)
+    rule_sum(x, 2, 12, y, 12, 0, 30, I3A, J3A, N3A)
 }
 
 // v3b(p,T)
-const I3B: [i32; 32] = [
+const I3B: [i32; 43] = [
     -12,
     -12,
     -10,
@@ -163,9 +189,20 @@ const I3B: [i32; 32] = [
     3,
     4,
     4,
+    0,
+    0,
+    0,
+    0,
+    0,
+    0,
+    0,
+    0,
+    0,
+    0,
+    0,
 ];
 
-const J3B: [i32; 32] = [
+const J3B: [i32; 43] = [
     10,
     12,
     8,
@@ -198,9 +235,20 @@ const J3B: [i32; 32] = [
     2,
     0,
     1,
+    0,
+    0,
+    0,
+    0,
+    0,
+    0,
+    0,
+    0,
+    0,
+    0,
+    0,
 ];
 
-const N3B: [f64; 32] = [
+const N3B: [f64; 43] = [
     -0.827670470003621e-1,
     0.416887126010565e2,
     0.483651982197059e-1,
@@ -233,29 +281,30 @@ const N3B: [f64; 32] = [
     -0.240462535078530,
     -0.269798180310075e-1,
     0.128369435967012,
+    0.0,
+    0.0,
+    0.0,
+    0.0,
+    0.0,
+    0.0,
+    0.0,
+    0.0,
+    0.0,
+    0.0,
+    0.0,
 ];
 
 pub fn sum_b(x: f64, y: f64) -> f64
     ensures { λ r. ⌜ r ≡ orNan (sumRule term x y table3b) ⌝ }
 {
     if both_usual(x, y) {
-        let mut wi = [0.0; 129];
-        let mut wj = [0.0; 129];
-        let is = I3B;
-        let js = J3B;
-        let ns = N3B;
-        fill_bare(x, 4, 12, &mut wi);
-        fill_bare(y, 14, 0, &mut wj);
-        return checked_once(plain_sum(&wi, &wj, &is, &js, &ns));
+        return bare_sum(x, 4, 12, y, 14, 0, 32, I3B, J3B, N3B);
     }
-    let is = I3B;
-    let js = J3B;
-    let ns = N3B;
-    raw_sum(Order::Zero, Order::Zero, x, y, &is, &js, &ns)
+    rule_sum(x, 4, 12, y, 14, 0, 32, I3B, J3B, N3B)
 }
 
 // v3c(p,T)
-const I3C: [i32; 35] = [
+const I3C: [i32; 43] = [
     -12,
     -12,
     -12,
@@ -291,9 +340,17 @@ const I3C: [i32; 35] = [
     3,
     3,
     8,
+    0,
+    0,
+    0,
+    0,
+    0,
+    0,
+    0,
+    0,
 ];
 
-const J3C: [i32; 35] = [
+const J3C: [i32; 43] = [
     6,
     8,
     10,
@@ -329,9 +386,17 @@ const J3C: [i32; 35] = [
     0,
     7,
     1,
+    0,
+    0,
+    0,
+    0,
+    0,
+    0,
+    0,
+    0,
 ];
 
-const N3C: [f64; 35] = [
+const N3C: [f64; 43] = [
     3.11967788763030,
     2.76713458847564e4,
     3.22583103403269e7,
@@ -367,29 +432,27 @@ const N3C: [f64; 35] = [
     -2.40650039730845e-2,
     -1.07077716660869e6,
     4.38319858566475e-2,
+    0.0,
+    0.0,
+    0.0,
+    0.0,
+    0.0,
+    0.0,
+    0.0,
+    0.0,
 ];
 
 pub fn sum_c(x: f64, y: f64) -> f64
     ensures { λ r. ⌜ r ≡ orNan (sumRule term x y table3c) ⌝ }
 {
     if both_usual(x, y) {
-        let mut wi = [0.0; 129];
-        let mut wj = [0.0; 129];
-        let is = I3C;
-        let js = J3C;
-        let ns = N3C;
-        fill_bare(x, 8, 12, &mut wi);
-        fill_bare(y, 10, 0, &mut wj);
-        return checked_once(plain_sum(&wi, &wj, &is, &js, &ns));
+        return bare_sum(x, 8, 12, y, 10, 0, 35, I3C, J3C, N3C);
     }
-    let is = I3C;
-    let js = J3C;
-    let ns = N3C;
-    raw_sum(Order::Zero, Order::Zero, x, y, &is, &js, &ns)
+    rule_sum(x, 8, 12, y, 10, 0, 35, I3C, J3C, N3C)
 }
 
 // v3d(p,T)
-const I3D: [i32; 38] = [
+const I3D: [i32; 43] = [
     -12,
     -12,
     -12,
@@ -428,9 +491,14 @@ const I3D: [i32; 38] = [
     1,
     1,
     3,
+    0,
+    0,
+    0,
+    0,
+    0,
 ];
 
-const J3D: [i32; 38] = [
+const J3D: [i32; 43] = [
     4,
     6,
     7,
@@ -469,9 +537,14 @@ const J3D: [i32; 38] = [
     0,
     6,
     0,
+    0,
+    0,
+    0,
+    0,
+    0,
 ];
 
-const N3D: [f64; 38] = [
+const N3D: [f64; 43] = [
     -4.52484847171645e-10,
     3.15210389538801e-5,
     -2.14991352047545e-3,
@@ -510,29 +583,24 @@ const N3D: [f64; 38] = [
     -3.26650121426383e-2,
     4.98044171727877e3,
     5.51478022765087e-3,
+    0.0,
+    0.0,
+    0.0,
+    0.0,
+    0.0,
 ];
 
 pub fn sum_d(x: f64, y: f64) -> f64
     ensures { λ r. ⌜ r ≡ orNan (sumRule term x y table3d) ⌝ }
 {
     if both_usual(x, y) {
-        let mut wi = [0.0; 129];
-        let mut wj = [0.0; 129];
-        let is = I3D;
-        let js = J3D;
-        let ns = N3D;
-        fill_bare(x, 3, 12, &mut wi);
-        fill_bare(y, 16, 0, &mut wj);
-        return checked_once(plain_sum(&wi, &wj, &is, &js, &ns));
+        return bare_sum(x, 3, 12, y, 16, 0, 38, I3D, J3D, N3D);
     }
-    let is = I3D;
-    let js = J3D;
-    let ns = N3D;
-    raw_sum(Order::Zero, Order::Zero, x, y, &is, &js, &ns)
+    rule_sum(x, 3, 12, y, 16, 0, 38, I3D, J3D, N3D)
 }
 
 // v3e(p,T)
-const I3E: [i32; 29] = [
+const I3E: [i32; 43] = [
     -12,
     -12,
     -10,
@@ -562,9 +630,23 @@ const I3E: [i32; 29] = [
     1,
     2,
     2,
+    0,
+    0,
+    0,
+    0,
+    0,
+    0,
+    0,
+    0,
+    0,
+    0,
+    0,
+    0,
+    0,
+    0,
 ];
 
-const J3E: [i32; 29] = [
+const J3E: [i32; 43] = [
     14,
     16,
     3,
@@ -594,9 +676,23 @@ const J3E: [i32; 29] = [
     6,
     0,
     2,
+    0,
+    0,
+    0,
+    0,
+    0,
+    0,
+    0,
+    0,
+    0,
+    0,
+    0,
+    0,
+    0,
+    0,
 ];
 
-const N3E: [f64; 29] = [
+const N3E: [f64; 43] = [
     7.15815808404721e8,
     -1.14328360753449e11,
     3.76531002015720e-12,
@@ -626,29 +722,33 @@ const N3E: [f64; 29] = [
     -2.28342359328752e4,
     4.13197481515899e-1,
     -3.41931835910405e1,
+    0.0,
+    0.0,
+    0.0,
+    0.0,
+    0.0,
+    0.0,
+    0.0,
+    0.0,
+    0.0,
+    0.0,
+    0.0,
+    0.0,
+    0.0,
+    0.0,
 ];
 
 pub fn sum_e(x: f64, y: f64) -> f64
     ensures { λ r. ⌜ r ≡ orNan (sumRule term x y table3e) ⌝ }
 {
     if both_usual(x, y) {
-        let mut wi = [0.0; 129];
-        let mut wj = [0.0; 129];
-        let is = I3E;
-        let js = J3E;
-        let ns = N3E;
-        fill_bare(x, 2, 12, &mut wi);
-        fill_bare(y, 16, 0, &mut wj);
-        return checked_once(plain_sum(&wi, &wj, &is, &js, &ns));
+        return bare_sum(x, 2, 12, y, 16, 0, 29, I3E, J3E, N3E);
     }
-    let is = I3E;
-    let js = J3E;
-    let ns = N3E;
-    raw_sum(Order::Zero, Order::Zero, x, y, &is, &js, &ns)
+    rule_sum(x, 2, 12, y, 16, 0, 29, I3E, J3E, N3E)
 }
 
 // v3f(p,T)
-const I3F: [i32; 42] = [
+const I3F: [i32; 43] = [
     0,
     0,
     0,
@@ -691,9 +791,10 @@ const I3F: [i32; 42] = [
     24,
     28,
     32,
+    0,
 ];
 
-const J3F: [i32; 42] = [
+const J3F: [i32; 43] = [
     -3,
     -2,
     -1,
@@ -736,9 +837,10 @@ const J3F: [i32; 42] = [
     -4,
     -12,
     -12,
+    0,
 ];
 
-const N3F: [f64; 42] = [
+const N3F: [f64; 43] = [
     -2.51756547792325e-8,
     6.01307193668763e-6,
     -1.00615977450049e-3,
@@ -781,29 +883,20 @@ const N3F: [f64; 42] = [
     -4.05735532730322e-4,
     1.89424143498011e-10,
     -4.86632965074563e-10,
+    0.0,
 ];
 
 pub fn sum_f(x: f64, y: f64) -> f64
     ensures { λ r. ⌜ r ≡ orNan (sumRule term x y table3f) ⌝ }
 {
     if both_usual(x, y) {
-        let mut wi = [0.0; 129];
-        let mut wj = [0.0; 129];
-        let is = I3F;
-        let js = J3F;
-        let ns = N3F;
-        fill_bare(x, 32, 0, &mut wi);
-        fill_bare(y, 3, 12, &mut wj);
-        return checked_once(plain_sum(&wi, &wj, &is, &js, &ns));
+        return bare_sum(x, 32, 0, y, 3, 12, 42, I3F, J3F, N3F);
     }
-    let is = I3F;
-    let js = J3F;
-    let ns = N3F;
-    raw_sum(Order::Zero, Order::Zero, x, y, &is, &js, &ns)
+    rule_sum(x, 32, 0, y, 3, 12, 42, I3F, J3F, N3F)
 }
 
 // v3g(p,T)
-const I3G: [i32; 38] = [
+const I3G: [i32; 43] = [
     -12,
     -12,
     -12,
@@ -842,9 +935,14 @@ const I3G: [i32; 38] = [
     8,
     10,
     10,
+    0,
+    0,
+    0,
+    0,
+    0,
 ];
 
-const J3G: [i32; 38] = [
+const J3G: [i32; 43] = [
     7,
     12,
     14,
@@ -883,9 +981,14 @@ const J3G: [i32; 38] = [
     3,
     0,
     6,
+    0,
+    0,
+    0,
+    0,
+    0,
 ];
 
-const N3G: [f64; 38] = [
+const N3G: [f64; 43] = [
     4.12209020652996e-5,
     -1.14987238280587e6,
     9.48180885032080e9,
@@ -924,23 +1027,18 @@ const N3G: [f64; 38] = [
     9.40781944835829e8,
     -3.67279669545448e4,
     -8.37513931798655e15,
+    0.0,
+    0.0,
+    0.0,
+    0.0,
+    0.0,
 ];
 
 pub fn sum_g(x: f64, y: f64) -> f64
     ensures { λ r. ⌜ r ≡ orNan (sumRule term x y table3g) ⌝ }
 {
     if both_usual(x, y) {
-        let mut wi = [0.0; 129];
-        let mut wj = [0.0; 129];
-        let is = I3G;
-        let js = J3G;
-        let ns = N3G;
-        fill_bare(x, 10, 12, &mut wi);
-        fill_bare(y, 24, 0, &mut wj);
-        return checked_once(plain_sum(&wi, &wj, &is, &js, &ns));
+        return bare_sum(x, 10, 12, y, 24, 0, 38, I3G, J3G, N3G);
     }
-    let is = I3G;
-    let js = J3G;
-    let ns = N3G;
-    raw_sum(Order::Zero, Order::Zero, x, y, &is, &js, &ns)
+    rule_sum(x, 10, 12, y, 24, 0, 38, I3G, J3G, N3G)
 }

@@ -1,10 +1,7 @@
 // Tables of S05rev by column, and the sum of each.
-use algo::Order;
-use algo::both_usual;
-use algo::checked_once;
-use algo::plain_sum;
-use polynomial::raw_sum;
-use powers::fill_bare;
+use table_sums::bare_sum;
+use table_sums::both_usual;
+use table_sums::rule_sum;
 ghost use mathlib.Core.Path.{_≡_};
 ghost use Rattle.common.specs.Outcome.{orNan};
 ghost use Rattle.algo.specs.Table.{sumRule, term};
@@ -12,7 +9,7 @@ ghost use lib.ListN.{take};
 ghost use Rattle.printed.specs.Volumes.{table3h, table3i, table3j, table3k, table3l, table3m};
 
 // v3h(p,T)
-const I3H: [i32; 29] = [
+const I3H: [i32; 43] = [
     -12,
     -12,
     -10,
@@ -42,9 +39,23 @@ const I3H: [i32; 29] = [
     0,
     1,
     1,
+    0,
+    0,
+    0,
+    0,
+    0,
+    0,
+    0,
+    0,
+    0,
+    0,
+    0,
+    0,
+    0,
+    0,
 ];
 
-const J3H: [i32; 29] = [
+const J3H: [i32; 43] = [
     8,
     12,
     4,
@@ -74,9 +85,23 @@ const J3H: [i32; 29] = [
     0,
     0,
     2,
+    0,
+    0,
+    0,
+    0,
+    0,
+    0,
+    0,
+    0,
+    0,
+    0,
+    0,
+    0,
+    0,
+    0,
 ];
 
-const N3H: [f64; 29] = [
+const N3H: [f64; 43] = [
     5.61379678887577e-2,
     7.74135421587083e9,
     1.11482975877938e-9,
@@ -106,29 +131,33 @@ const N3H: [f64; 29] = [
     8.99345518944240e-1,
     -2.11346402240858e-1,
     2.49971752957491e1,
+    0.0,
+    0.0,
+    0.0,
+    0.0,
+    0.0,
+    0.0,
+    0.0,
+    0.0,
+    0.0,
+    0.0,
+    0.0,
+    0.0,
+    0.0,
+    0.0,
 ];
 
 pub fn sum_h(x: f64, y: f64) -> f64
     ensures { λ r. ⌜ r ≡ orNan (sumRule term x y table3h) ⌝ }
 {
     if both_usual(x, y) {
-        let mut wi = [0.0; 129];
-        let mut wj = [0.0; 129];
-        let is = I3H;
-        let js = J3H;
-        let ns = N3H;
-        fill_bare(x, 1, 12, &mut wi);
-        fill_bare(y, 16, 0, &mut wj);
-        return checked_once(plain_sum(&wi, &wj, &is, &js, &ns));
+        return bare_sum(x, 1, 12, y, 16, 0, 29, I3H, J3H, N3H);
     }
-    let is = I3H;
-    let js = J3H;
-    let ns = N3H;
-    raw_sum(Order::Zero, Order::Zero, x, y, &is, &js, &ns)
+    rule_sum(x, 1, 12, y, 16, 0, 29, I3H, J3H, N3H)
 }
 
 // v3i(p,T)
-const I3I: [i32; 42] = [
+const I3I: [i32; 43] = [
     0,
     0,
     0,
@@ -171,9 +200,10 @@ const I3I: [i32; 42] = [
     32,
     36,
     36,
+    0,
 ];
 
-const J3I: [i32; 42] = [
+const J3I: [i32; 43] = [
     0,
     1,
     10,
@@ -216,9 +246,10 @@ const J3I: [i32; 42] = [
     -5,
     -10,
     -8,
+    0,
 ];
 
-const N3I: [f64; 42] = [
+const N3I: [f64; 43] = [
     1.06905684359136,
     -1.48620857922333,
     2.59862256980408e14,
@@ -261,29 +292,20 @@ const N3I: [f64; 42] = [
     -9.31976897511086e4,
     -2.47690616026922e-2,
     6.58110546759474e1,
+    0.0,
 ];
 
 pub fn sum_i(x: f64, y: f64) -> f64
     ensures { λ r. ⌜ r ≡ orNan (sumRule term x y table3i) ⌝ }
 {
     if both_usual(x, y) {
-        let mut wi = [0.0; 129];
-        let mut wj = [0.0; 129];
-        let is = I3I;
-        let js = J3I;
-        let ns = N3I;
-        fill_bare(x, 36, 0, &mut wi);
-        fill_bare(y, 12, 12, &mut wj);
-        return checked_once(plain_sum(&wi, &wj, &is, &js, &ns));
+        return bare_sum(x, 36, 0, y, 12, 12, 42, I3I, J3I, N3I);
     }
-    let is = I3I;
-    let js = J3I;
-    let ns = N3I;
-    raw_sum(Order::Zero, Order::Zero, x, y, &is, &js, &ns)
+    rule_sum(x, 36, 0, y, 12, 12, 42, I3I, J3I, N3I)
 }
 
 // v3j(p,T)
-const I3J: [i32; 29] = [
+const I3J: [i32; 43] = [
     0,
     0,
     0,
@@ -313,9 +335,23 @@ const I3J: [i32; 29] = [
     24,
     28,
     28,
+    0,
+    0,
+    0,
+    0,
+    0,
+    0,
+    0,
+    0,
+    0,
+    0,
+    0,
+    0,
+    0,
+    0,
 ];
 
-const J3J: [i32; 29] = [
+const J3J: [i32; 43] = [
     -1,
     0,
     1,
@@ -345,9 +381,23 @@ const J3J: [i32; 29] = [
     -6,
     -12,
     -5,
+    0,
+    0,
+    0,
+    0,
+    0,
+    0,
+    0,
+    0,
+    0,
+    0,
+    0,
+    0,
+    0,
+    0,
 ];
 
-const N3J: [f64; 29] = [
+const N3J: [f64; 43] = [
     -1.11371317395540e-4,
     1.00342892423685,
     5.30615581928979,
@@ -377,29 +427,33 @@ const N3J: [f64; 29] = [
     -4.22271787482497e-3,
     2.83911742354706e-11,
     2.70929002720228,
+    0.0,
+    0.0,
+    0.0,
+    0.0,
+    0.0,
+    0.0,
+    0.0,
+    0.0,
+    0.0,
+    0.0,
+    0.0,
+    0.0,
+    0.0,
+    0.0,
 ];
 
 pub fn sum_j(x: f64, y: f64) -> f64
     ensures { λ r. ⌜ r ≡ orNan (sumRule term x y table3j) ⌝ }
 {
     if both_usual(x, y) {
-        let mut wi = [0.0; 129];
-        let mut wj = [0.0; 129];
-        let is = I3J;
-        let js = J3J;
-        let ns = N3J;
-        fill_bare(x, 28, 0, &mut wi);
-        fill_bare(y, 3, 12, &mut wj);
-        return checked_once(plain_sum(&wi, &wj, &is, &js, &ns));
+        return bare_sum(x, 28, 0, y, 3, 12, 29, I3J, J3J, N3J);
     }
-    let is = I3J;
-    let js = J3J;
-    let ns = N3J;
-    raw_sum(Order::Zero, Order::Zero, x, y, &is, &js, &ns)
+    rule_sum(x, 28, 0, y, 3, 12, 29, I3J, J3J, N3J)
 }
 
 // v3k(p,T)
-const I3K: [i32; 34] = [
+const I3K: [i32; 43] = [
     -2,
     -2,
     -1,
@@ -434,9 +488,18 @@ const I3K: [i32; 34] = [
     8,
     10,
     12,
+    0,
+    0,
+    0,
+    0,
+    0,
+    0,
+    0,
+    0,
+    0,
 ];
 
-const J3K: [i32; 34] = [
+const J3K: [i32; 43] = [
     10,
     12,
     -5,
@@ -471,9 +534,18 @@ const J3K: [i32; 34] = [
     -12,
     -12,
     -10,
+    0,
+    0,
+    0,
+    0,
+    0,
+    0,
+    0,
+    0,
+    0,
 ];
 
-const N3K: [f64; 34] = [
+const N3K: [f64; 43] = [
     -4.01215699576099e8,
     4.84501478318406e10,
     3.94721471363678e-15,
@@ -508,25 +580,24 @@ const N3K: [f64; 34] = [
     -6.49565446702457e-15,
     -1.49095328506000e-12,
     5.41449377329581e-9,
+    0.0,
+    0.0,
+    0.0,
+    0.0,
+    0.0,
+    0.0,
+    0.0,
+    0.0,
+    0.0,
 ];
 
 pub fn sum_k(x: f64, y: f64) -> f64
     ensures { λ r. ⌜ r ≡ orNan (sumRule term x y table3k) ⌝ }
 {
     if both_usual(x, y) {
-        let mut wi = [0.0; 129];
-        let mut wj = [0.0; 129];
-        let is = I3K;
-        let js = J3K;
-        let ns = N3K;
-        fill_bare(x, 12, 2, &mut wi);
-        fill_bare(y, 14, 12, &mut wj);
-        return checked_once(plain_sum(&wi, &wj, &is, &js, &ns));
+        return bare_sum(x, 12, 2, y, 14, 12, 34, I3K, J3K, N3K);
     }
-    let is = I3K;
-    let js = J3K;
-    let ns = N3K;
-    raw_sum(Order::Zero, Order::Zero, x, y, &is, &js, &ns)
+    rule_sum(x, 12, 2, y, 14, 12, 34, I3K, J3K, N3K)
 }
 
 // v3l(p,T)
@@ -675,37 +746,13 @@ pub fn sum_l(x: f64, y: f64) -> f64
     ensures { λ r. ⌜ r ≡ orNan (sumRule term x y (take 42 table3l)) ⌝ }
 {
     if both_usual(x, y) {
-        let mut wi = [0.0; 129];
-        let mut wj = [0.0; 129];
-        let is = I3L;
-        let js = J3L;
-        let ns = N3L;
-        fill_bare(x, 14, 12, &mut wi);
-        fill_bare(y, 36, 0, &mut wj);
-        return checked_once(plain_sum(
-            &wi,
-            &wj,
-            &is[0..SUMMED_3L],
-            &js[0..SUMMED_3L],
-            &ns[0..SUMMED_3L],
-        ));
+        return bare_sum(x, 14, 12, y, 36, 0, SUMMED_3L, I3L, J3L, N3L);
     }
-    let is = I3L;
-    let js = J3L;
-    let ns = N3L;
-    raw_sum(
-        Order::Zero,
-        Order::Zero,
-        x,
-        y,
-        &is[0..SUMMED_3L],
-        &js[0..SUMMED_3L],
-        &ns[0..SUMMED_3L],
-    )
+    rule_sum(x, 14, 12, y, 36, 0, SUMMED_3L, I3L, J3L, N3L)
 }
 
 // v3m(p,T)
-const I3M: [i32; 40] = [
+const I3M: [i32; 43] = [
     0,
     3,
     8,
@@ -746,9 +793,12 @@ const I3M: [i32; 40] = [
     8,
     14,
     24,
+    0,
+    0,
+    0,
 ];
 
-const J3M: [i32; 40] = [
+const J3M: [i32; 43] = [
     0,
     0,
     0,
@@ -789,9 +839,12 @@ const J3M: [i32; 40] = [
     36,
     36,
     36,
+    0,
+    0,
+    0,
 ];
 
-const N3M: [f64; 40] = [
+const N3M: [f64; 43] = [
     8.11384363481847e-1,
     -5.68199310990094e3,
     -1.78657198172556e10,
@@ -832,23 +885,16 @@ const N3M: [f64; 40] = [
     -2.11961148774260e37,
     -1.28617899887675e48,
     4.79817895699239e64,
+    0.0,
+    0.0,
+    0.0,
 ];
 
 pub fn sum_m(x: f64, y: f64) -> f64
     ensures { λ r. ⌜ r ≡ orNan (sumRule term x y table3m) ⌝ }
 {
     if both_usual(x, y) {
-        let mut wi = [0.0; 129];
-        let mut wj = [0.0; 129];
-        let is = I3M;
-        let js = J3M;
-        let ns = N3M;
-        fill_bare(x, 28, 0, &mut wi);
-        fill_bare(y, 36, 0, &mut wj);
-        return checked_once(plain_sum(&wi, &wj, &is, &js, &ns));
+        return bare_sum(x, 28, 0, y, 36, 0, 40, I3M, J3M, N3M);
     }
-    let is = I3M;
-    let js = J3M;
-    let ns = N3M;
-    raw_sum(Order::Zero, Order::Zero, x, y, &is, &js, &ns)
+    rule_sum(x, 28, 0, y, 36, 0, 40, I3M, J3M, N3M)
 }

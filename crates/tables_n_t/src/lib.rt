@@ -1,17 +1,14 @@
 // Tables of S05rev by column, and the sum of each.
-use algo::Order;
-use algo::both_usual;
-use algo::checked_once;
-use algo::plain_sum;
-use polynomial::raw_sum;
-use powers::fill_bare;
+use table_sums::bare_sum;
+use table_sums::both_usual;
+use table_sums::rule_sum;
 ghost use mathlib.Core.Path.{_≡_};
 ghost use Rattle.common.specs.Outcome.{orNan};
 ghost use Rattle.algo.specs.Table.{sumRule, term};
 ghost use Rattle.printed.specs.Volumes.{table3n, table3o, table3p, table3q, table3r, table3s, table3t};
 
 // v3n(p,T)
-const I3N: [i32; 39] = [
+const I3N: [i32; 43] = [
     0,
     3,
     4,
@@ -51,9 +48,13 @@ const I3N: [i32; 39] = [
     1,
     0,
     1,
+    0,
+    0,
+    0,
+    0,
 ];
 
-const J3N: [i32; 39] = [
+const J3N: [i32; 43] = [
     -12,
     -12,
     -12,
@@ -93,9 +94,13 @@ const J3N: [i32; 39] = [
     4,
     5,
     6,
+    0,
+    0,
+    0,
+    0,
 ];
 
-const N3N: [f64; 39] = [
+const N3N: [f64; 43] = [
     2.80967799943151e-39,
     6.14869006573609e-31,
     5.82238667048942e-28,
@@ -135,29 +140,23 @@ const N3N: [f64; 39] = [
     -8.69871364662769e10,
     3.54542769185671e11,
     4.00849240129329e14,
+    0.0,
+    0.0,
+    0.0,
+    0.0,
 ];
 
 pub fn sum_n(x: f64, y: f64) -> f64
     ensures { λ r. ⌜ r ≡ orNan (sumRule term x y table3n) ⌝ }
 {
     if both_usual(x, y) {
-        let mut wi = [0.0; 129];
-        let mut wj = [0.0; 129];
-        let is = I3N;
-        let js = J3N;
-        let ns = N3N;
-        fill_bare(x, 18, 0, &mut wi);
-        fill_bare(y, 6, 12, &mut wj);
-        return checked_once(plain_sum(&wi, &wj, &is, &js, &ns));
+        return bare_sum(x, 18, 0, y, 6, 12, 39, I3N, J3N, N3N);
     }
-    let is = I3N;
-    let js = J3N;
-    let ns = N3N;
-    raw_sum(Order::Zero, Order::Zero, x, y, &is, &js, &ns)
+    rule_sum(x, 18, 0, y, 6, 12, 39, I3N, J3N, N3N)
 }
 
 // v3o(p,T)
-const I3O: [i32; 24] = [
+const I3O: [i32; 43] = [
     0,
     0,
     0,
@@ -182,9 +181,28 @@ const I3O: [i32; 24] = [
     20,
     20,
     24,
+    0,
+    0,
+    0,
+    0,
+    0,
+    0,
+    0,
+    0,
+    0,
+    0,
+    0,
+    0,
+    0,
+    0,
+    0,
+    0,
+    0,
+    0,
+    0,
 ];
 
-const J3O: [i32; 24] = [
+const J3O: [i32; 43] = [
     -12,
     -4,
     -1,
@@ -209,9 +227,28 @@ const J3O: [i32; 24] = [
     -12,
     -10,
     -12,
+    0,
+    0,
+    0,
+    0,
+    0,
+    0,
+    0,
+    0,
+    0,
+    0,
+    0,
+    0,
+    0,
+    0,
+    0,
+    0,
+    0,
+    0,
+    0,
 ];
 
-const N3O: [f64; 24] = [
+const N3O: [f64; 43] = [
     1.28746023979718e-35,
     -7.35234770382342e-12,
     2.89078692149150e-3,
@@ -236,29 +273,38 @@ const N3O: [f64; 24] = [
     -1.74093247766213e-13,
     3.77682649089149e-9,
     -5.16720236575302e-11,
+    0.0,
+    0.0,
+    0.0,
+    0.0,
+    0.0,
+    0.0,
+    0.0,
+    0.0,
+    0.0,
+    0.0,
+    0.0,
+    0.0,
+    0.0,
+    0.0,
+    0.0,
+    0.0,
+    0.0,
+    0.0,
+    0.0,
 ];
 
 pub fn sum_o(x: f64, y: f64) -> f64
     ensures { λ r. ⌜ r ≡ orNan (sumRule term x y table3o) ⌝ }
 {
     if both_usual(x, y) {
-        let mut wi = [0.0; 129];
-        let mut wj = [0.0; 129];
-        let is = I3O;
-        let js = J3O;
-        let ns = N3O;
-        fill_bare(x, 24, 0, &mut wi);
-        fill_bare(y, 0, 12, &mut wj);
-        return checked_once(plain_sum(&wi, &wj, &is, &js, &ns));
+        return bare_sum(x, 24, 0, y, 0, 12, 24, I3O, J3O, N3O);
     }
-    let is = I3O;
-    let js = J3O;
-    let ns = N3O;
-    raw_sum(Order::Zero, Order::Zero, x, y, &is, &js, &ns)
+    rule_sum(x, 24, 0, y, 0, 12, 24, I3O, J3O, N3O)
 }
 
 // v3p(p,T)
-const I3P: [i32; 27] = [
+const I3P: [i32; 43] = [
     0,
     0,
     0,
@@ -286,9 +332,25 @@ const I3P: [i32; 27] = [
     24,
     24,
     36,
+    0,
+    0,
+    0,
+    0,
+    0,
+    0,
+    0,
+    0,
+    0,
+    0,
+    0,
+    0,
+    0,
+    0,
+    0,
+    0,
 ];
 
-const J3P: [i32; 27] = [
+const J3P: [i32; 43] = [
     -1,
     0,
     1,
@@ -316,9 +378,25 @@ const J3P: [i32; 27] = [
     -12,
     -8,
     -12,
+    0,
+    0,
+    0,
+    0,
+    0,
+    0,
+    0,
+    0,
+    0,
+    0,
+    0,
+    0,
+    0,
+    0,
+    0,
+    0,
 ];
 
-const N3P: [f64; 27] = [
+const N3P: [f64; 43] = [
     -9.82825342010366e-5,
     1.05145700850612,
     1.16033094095084e2,
@@ -346,29 +424,35 @@ const N3P: [f64; 27] = [
     -3.82323011855257e-11,
     1.79946628317437e-3,
     -3.45042834640005e-4,
+    0.0,
+    0.0,
+    0.0,
+    0.0,
+    0.0,
+    0.0,
+    0.0,
+    0.0,
+    0.0,
+    0.0,
+    0.0,
+    0.0,
+    0.0,
+    0.0,
+    0.0,
+    0.0,
 ];
 
 pub fn sum_p(x: f64, y: f64) -> f64
     ensures { λ r. ⌜ r ≡ orNan (sumRule term x y table3p) ⌝ }
 {
     if both_usual(x, y) {
-        let mut wi = [0.0; 129];
-        let mut wj = [0.0; 129];
-        let is = I3P;
-        let js = J3P;
-        let ns = N3P;
-        fill_bare(x, 36, 0, &mut wi);
-        fill_bare(y, 2, 12, &mut wj);
-        return checked_once(plain_sum(&wi, &wj, &is, &js, &ns));
+        return bare_sum(x, 36, 0, y, 2, 12, 27, I3P, J3P, N3P);
     }
-    let is = I3P;
-    let js = J3P;
-    let ns = N3P;
-    raw_sum(Order::Zero, Order::Zero, x, y, &is, &js, &ns)
+    rule_sum(x, 36, 0, y, 2, 12, 27, I3P, J3P, N3P)
 }
 
 // v3q(p,T)
-const I3Q: [i32; 24] = [
+const I3Q: [i32; 43] = [
     -12,
     -12,
     -10,
@@ -393,9 +477,28 @@ const I3Q: [i32; 24] = [
     1,
     1,
     1,
+    0,
+    0,
+    0,
+    0,
+    0,
+    0,
+    0,
+    0,
+    0,
+    0,
+    0,
+    0,
+    0,
+    0,
+    0,
+    0,
+    0,
+    0,
+    0,
 ];
 
-const J3Q: [i32; 24] = [
+const J3Q: [i32; 43] = [
     10,
     12,
     6,
@@ -420,9 +523,28 @@ const J3Q: [i32; 24] = [
     0,
     1,
     3,
+    0,
+    0,
+    0,
+    0,
+    0,
+    0,
+    0,
+    0,
+    0,
+    0,
+    0,
+    0,
+    0,
+    0,
+    0,
+    0,
+    0,
+    0,
+    0,
 ];
 
-const N3Q: [f64; 24] = [
+const N3Q: [f64; 43] = [
     -8.20433843259950e4,
     4.73271518461586e10,
     -8.05950021005413e-2,
@@ -447,29 +569,38 @@ const N3Q: [f64; 24] = [
     -8.38165632204598e-2,
     2.47795908411492,
     -3.19114969006533e3,
+    0.0,
+    0.0,
+    0.0,
+    0.0,
+    0.0,
+    0.0,
+    0.0,
+    0.0,
+    0.0,
+    0.0,
+    0.0,
+    0.0,
+    0.0,
+    0.0,
+    0.0,
+    0.0,
+    0.0,
+    0.0,
+    0.0,
 ];
 
 pub fn sum_q(x: f64, y: f64) -> f64
     ensures { λ r. ⌜ r ≡ orNan (sumRule term x y table3q) ⌝ }
 {
     if both_usual(x, y) {
-        let mut wi = [0.0; 129];
-        let mut wj = [0.0; 129];
-        let is = I3Q;
-        let js = J3Q;
-        let ns = N3Q;
-        fill_bare(x, 1, 12, &mut wi);
-        fill_bare(y, 12, 0, &mut wj);
-        return checked_once(plain_sum(&wi, &wj, &is, &js, &ns));
+        return bare_sum(x, 1, 12, y, 12, 0, 24, I3Q, J3Q, N3Q);
     }
-    let is = I3Q;
-    let js = J3Q;
-    let ns = N3Q;
-    raw_sum(Order::Zero, Order::Zero, x, y, &is, &js, &ns)
+    rule_sum(x, 1, 12, y, 12, 0, 24, I3Q, J3Q, N3Q)
 }
 
 // v3r(p,T)
-const I3R: [i32; 27] = [
+const I3R: [i32; 43] = [
     -8,
     -8,
     -3,
@@ -497,9 +628,25 @@ const I3R: [i32; 27] = [
     10,
     12,
     14,
+    0,
+    0,
+    0,
+    0,
+    0,
+    0,
+    0,
+    0,
+    0,
+    0,
+    0,
+    0,
+    0,
+    0,
+    0,
+    0,
 ];
 
-const J3R: [i32; 27] = [
+const J3R: [i32; 43] = [
     6,
     14,
     -3,
@@ -527,9 +674,25 @@ const J3R: [i32; 27] = [
     -2,
     -12,
     -12,
+    0,
+    0,
+    0,
+    0,
+    0,
+    0,
+    0,
+    0,
+    0,
+    0,
+    0,
+    0,
+    0,
+    0,
+    0,
+    0,
 ];
 
-const N3R: [f64; 27] = [
+const N3R: [f64; 43] = [
     1.44165955660863e-3,
     -7.01438599628258e12,
     -8.30946716459219e-17,
@@ -557,29 +720,35 @@ const N3R: [f64; 27] = [
     1.50764974125511e5,
     -3.37209709340105e-10,
     3.77501980025469e-9,
+    0.0,
+    0.0,
+    0.0,
+    0.0,
+    0.0,
+    0.0,
+    0.0,
+    0.0,
+    0.0,
+    0.0,
+    0.0,
+    0.0,
+    0.0,
+    0.0,
+    0.0,
+    0.0,
 ];
 
 pub fn sum_r(x: f64, y: f64) -> f64
     ensures { λ r. ⌜ r ≡ orNan (sumRule term x y table3r) ⌝ }
 {
     if both_usual(x, y) {
-        let mut wi = [0.0; 129];
-        let mut wj = [0.0; 129];
-        let is = I3R;
-        let js = J3R;
-        let ns = N3R;
-        fill_bare(x, 14, 8, &mut wi);
-        fill_bare(y, 14, 12, &mut wj);
-        return checked_once(plain_sum(&wi, &wj, &is, &js, &ns));
+        return bare_sum(x, 14, 8, y, 14, 12, 27, I3R, J3R, N3R);
     }
-    let is = I3R;
-    let js = J3R;
-    let ns = N3R;
-    raw_sum(Order::Zero, Order::Zero, x, y, &is, &js, &ns)
+    rule_sum(x, 14, 8, y, 14, 12, 27, I3R, J3R, N3R)
 }
 
 // v3s(p,T)
-const I3S: [i32; 29] = [
+const I3S: [i32; 43] = [
     -12,
     -12,
     -10,
@@ -609,9 +778,23 @@ const I3S: [i32; 29] = [
     4,
     5,
     14,
+    0,
+    0,
+    0,
+    0,
+    0,
+    0,
+    0,
+    0,
+    0,
+    0,
+    0,
+    0,
+    0,
+    0,
 ];
 
-const J3S: [i32; 29] = [
+const J3S: [i32; 43] = [
     20,
     24,
     22,
@@ -641,9 +824,23 @@ const J3S: [i32; 29] = [
     24,
     4,
     24,
+    0,
+    0,
+    0,
+    0,
+    0,
+    0,
+    0,
+    0,
+    0,
+    0,
+    0,
+    0,
+    0,
+    0,
 ];
 
-const N3S: [f64; 29] = [
+const N3S: [f64; 43] = [
     -5.32466612140254e22,
     1.00415480000824e31,
     -1.91540001821367e29,
@@ -673,29 +870,33 @@ const N3S: [f64; 29] = [
     -6.16552611135792e45,
     1.93568768917797e9,
     9.50898170425042e53,
+    0.0,
+    0.0,
+    0.0,
+    0.0,
+    0.0,
+    0.0,
+    0.0,
+    0.0,
+    0.0,
+    0.0,
+    0.0,
+    0.0,
+    0.0,
+    0.0,
 ];
 
 pub fn sum_s(x: f64, y: f64) -> f64
     ensures { λ r. ⌜ r ≡ orNan (sumRule term x y table3s) ⌝ }
 {
     if both_usual(x, y) {
-        let mut wi = [0.0; 129];
-        let mut wj = [0.0; 129];
-        let is = I3S;
-        let js = J3S;
-        let ns = N3S;
-        fill_bare(x, 14, 12, &mut wi);
-        fill_bare(y, 36, 0, &mut wj);
-        return checked_once(plain_sum(&wi, &wj, &is, &js, &ns));
+        return bare_sum(x, 14, 12, y, 36, 0, 29, I3S, J3S, N3S);
     }
-    let is = I3S;
-    let js = J3S;
-    let ns = N3S;
-    raw_sum(Order::Zero, Order::Zero, x, y, &is, &js, &ns)
+    rule_sum(x, 14, 12, y, 36, 0, 29, I3S, J3S, N3S)
 }
 
 // v3t(p,T)
-const I3T: [i32; 33] = [
+const I3T: [i32; 43] = [
     0,
     0,
     0,
@@ -729,9 +930,19 @@ const I3T: [i32; 33] = [
     32,
     32,
     36,
+    0,
+    0,
+    0,
+    0,
+    0,
+    0,
+    0,
+    0,
+    0,
+    0,
 ];
 
-const J3T: [i32; 33] = [
+const J3T: [i32; 43] = [
     0,
     1,
     4,
@@ -765,9 +976,19 @@ const J3T: [i32; 33] = [
     32,
     36,
     36,
+    0,
+    0,
+    0,
+    0,
+    0,
+    0,
+    0,
+    0,
+    0,
+    0,
 ];
 
-const N3T: [f64; 33] = [
+const N3T: [f64; 43] = [
     1.55287249586268,
     6.64235115009031,
     -2.89366236727210e3,
@@ -801,23 +1022,23 @@ const N3T: [f64; 33] = [
     4.28432338620678e68,
     -4.44227367758304e71,
     -2.81396013562745e76,
+    0.0,
+    0.0,
+    0.0,
+    0.0,
+    0.0,
+    0.0,
+    0.0,
+    0.0,
+    0.0,
+    0.0,
 ];
 
 pub fn sum_t(x: f64, y: f64) -> f64
     ensures { λ r. ⌜ r ≡ orNan (sumRule term x y table3t) ⌝ }
 {
     if both_usual(x, y) {
-        let mut wi = [0.0; 129];
-        let mut wj = [0.0; 129];
-        let is = I3T;
-        let js = J3T;
-        let ns = N3T;
-        fill_bare(x, 36, 0, &mut wi);
-        fill_bare(y, 36, 0, &mut wj);
-        return checked_once(plain_sum(&wi, &wj, &is, &js, &ns));
+        return bare_sum(x, 36, 0, y, 36, 0, 33, I3T, J3T, N3T);
     }
-    let is = I3T;
-    let js = J3T;
-    let ns = N3T;
-    raw_sum(Order::Zero, Order::Zero, x, y, &is, &js, &ns)
+    rule_sum(x, 36, 0, y, 36, 0, 33, I3T, J3T, N3T)
 }

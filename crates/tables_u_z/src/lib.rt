@@ -1,17 +1,14 @@
 // Tables of S05rev by column, and the sum of each.
-use algo::Order;
-use algo::both_usual;
-use algo::checked_once;
-use algo::plain_sum;
-use polynomial::raw_sum;
-use powers::fill_bare;
+use table_sums::bare_sum;
+use table_sums::both_usual;
+use table_sums::rule_sum;
 ghost use mathlib.Core.Path.{_≡_};
 ghost use Rattle.common.specs.Outcome.{orNan};
 ghost use Rattle.algo.specs.Table.{sumRule, term};
 ghost use Rattle.printed.specs.Volumes.{table3u, table3v, table3w, table3x, table3y, table3z};
 
 // v3u(p,T)
-const I3U: [i32; 38] = [
+const I3U: [i32; 43] = [
     -12,
     -10,
     -10,
@@ -50,9 +47,14 @@ const I3U: [i32; 38] = [
     14,
     14,
     14,
+    0,
+    0,
+    0,
+    0,
+    0,
 ];
 
-const J3U: [i32; 38] = [
+const J3U: [i32; 43] = [
     14,
     10,
     12,
@@ -91,9 +93,14 @@ const J3U: [i32; 38] = [
     -10,
     -6,
     6,
+    0,
+    0,
+    0,
+    0,
+    0,
 ];
 
-const N3U: [f64; 38] = [
+const N3U: [f64; 43] = [
     1.22088349258355e17,
     1.04216468608488e9,
     -8.82666931564652e15,
@@ -132,29 +139,24 @@ const N3U: [f64; 38] = [
     1.51001548880670e-5,
     -2.27700464643920e4,
     -7.81754507698846e27,
+    0.0,
+    0.0,
+    0.0,
+    0.0,
+    0.0,
 ];
 
 pub fn sum_u(x: f64, y: f64) -> f64
     ensures { λ r. ⌜ r ≡ orNan (sumRule term x y table3u) ⌝ }
 {
     if both_usual(x, y) {
-        let mut wi = [0.0; 129];
-        let mut wj = [0.0; 129];
-        let is = I3U;
-        let js = J3U;
-        let ns = N3U;
-        fill_bare(x, 14, 12, &mut wi);
-        fill_bare(y, 14, 12, &mut wj);
-        return checked_once(plain_sum(&wi, &wj, &is, &js, &ns));
+        return bare_sum(x, 14, 12, y, 14, 12, 38, I3U, J3U, N3U);
     }
-    let is = I3U;
-    let js = J3U;
-    let ns = N3U;
-    raw_sum(Order::Zero, Order::Zero, x, y, &is, &js, &ns)
+    rule_sum(x, 14, 12, y, 14, 12, 38, I3U, J3U, N3U)
 }
 
 // v3v(p,T)
-const I3V: [i32; 39] = [
+const I3V: [i32; 43] = [
     -10,
     -8,
     -6,
@@ -194,9 +196,13 @@ const I3V: [i32; 39] = [
     10,
     12,
     14,
+    0,
+    0,
+    0,
+    0,
 ];
 
-const J3V: [i32; 39] = [
+const J3V: [i32; 43] = [
     -8,
     -12,
     -12,
@@ -236,9 +242,13 @@ const J3V: [i32; 39] = [
     -2,
     -3,
     1,
+    0,
+    0,
+    0,
+    0,
 ];
 
-const N3V: [f64; 39] = [
+const N3V: [f64; 43] = [
     -4.15652812061591e-55,
     1.77441742924043e-61,
     -3.57078668203377e-55,
@@ -278,29 +288,23 @@ const N3V: [f64; 39] = [
     3.12545677756104e13,
     -1.00375333864186e14,
     2.47761392329058e26,
+    0.0,
+    0.0,
+    0.0,
+    0.0,
 ];
 
 pub fn sum_v(x: f64, y: f64) -> f64
     ensures { λ r. ⌜ r ≡ orNan (sumRule term x y table3v) ⌝ }
 {
     if both_usual(x, y) {
-        let mut wi = [0.0; 129];
-        let mut wj = [0.0; 129];
-        let is = I3V;
-        let js = J3V;
-        let ns = N3V;
-        fill_bare(x, 14, 10, &mut wi);
-        fill_bare(y, 14, 12, &mut wj);
-        return checked_once(plain_sum(&wi, &wj, &is, &js, &ns));
+        return bare_sum(x, 14, 10, y, 14, 12, 39, I3V, J3V, N3V);
     }
-    let is = I3V;
-    let js = J3V;
-    let ns = N3V;
-    raw_sum(Order::Zero, Order::Zero, x, y, &is, &js, &ns)
+    rule_sum(x, 14, 10, y, 14, 12, 39, I3V, J3V, N3V)
 }
 
 // v3w(p,T)
-const I3W: [i32; 35] = [
+const I3W: [i32; 43] = [
     -12,
     -12,
     -10,
@@ -336,9 +340,17 @@ const I3W: [i32; 35] = [
     8,
     10,
     10,
+    0,
+    0,
+    0,
+    0,
+    0,
+    0,
+    0,
+    0,
 ];
 
-const J3W: [i32; 35] = [
+const J3W: [i32; 43] = [
     8,
     14,
     -1,
@@ -374,9 +386,17 @@ const J3W: [i32; 35] = [
     -10,
     -12,
     -8,
+    0,
+    0,
+    0,
+    0,
+    0,
+    0,
+    0,
+    0,
 ];
 
-const N3W: [f64; 35] = [
+const N3W: [f64; 43] = [
     -5.86219133817016e-8,
     -8.94460355005526e10,
     5.31168037519774e-31,
@@ -412,29 +432,27 @@ const N3W: [f64; 35] = [
     -8.56711586510214e-13,
     2.66170454405981e-14,
     8.58133791857099e-6,
+    0.0,
+    0.0,
+    0.0,
+    0.0,
+    0.0,
+    0.0,
+    0.0,
+    0.0,
 ];
 
 pub fn sum_w(x: f64, y: f64) -> f64
     ensures { λ r. ⌜ r ≡ orNan (sumRule term x y table3w) ⌝ }
 {
     if both_usual(x, y) {
-        let mut wi = [0.0; 129];
-        let mut wj = [0.0; 129];
-        let is = I3W;
-        let js = J3W;
-        let ns = N3W;
-        fill_bare(x, 10, 12, &mut wi);
-        fill_bare(y, 14, 12, &mut wj);
-        return checked_once(plain_sum(&wi, &wj, &is, &js, &ns));
+        return bare_sum(x, 10, 12, y, 14, 12, 35, I3W, J3W, N3W);
     }
-    let is = I3W;
-    let js = J3W;
-    let ns = N3W;
-    raw_sum(Order::Zero, Order::Zero, x, y, &is, &js, &ns)
+    rule_sum(x, 10, 12, y, 14, 12, 35, I3W, J3W, N3W)
 }
 
 // v3x(p,T)
-const I3X: [i32; 36] = [
+const I3X: [i32; 43] = [
     -8,
     -6,
     -5,
@@ -471,9 +489,16 @@ const I3X: [i32; 36] = [
     14,
     14,
     14,
+    0,
+    0,
+    0,
+    0,
+    0,
+    0,
+    0,
 ];
 
-const J3X: [i32; 36] = [
+const J3X: [i32; 43] = [
     14,
     10,
     10,
@@ -510,9 +535,16 @@ const J3X: [i32; 36] = [
     -10,
     -8,
     -6,
+    0,
+    0,
+    0,
+    0,
+    0,
+    0,
+    0,
 ];
 
-const N3X: [f64; 36] = [
+const N3X: [f64; 43] = [
     3.77373741298151e18,
     -5.07100883722913e12,
     -1.03363225598860e15,
@@ -549,31 +581,72 @@ const N3X: [f64; 36] = [
     1.81339603516302e-1,
     -1.19228759669889e3,
     4.30867658061468e6,
+    0.0,
+    0.0,
+    0.0,
+    0.0,
+    0.0,
+    0.0,
+    0.0,
 ];
 
 pub fn sum_x(x: f64, y: f64) -> f64
     ensures { λ r. ⌜ r ≡ orNan (sumRule term x y table3x) ⌝ }
 {
     if both_usual(x, y) {
-        let mut wi = [0.0; 129];
-        let mut wj = [0.0; 129];
-        let is = I3X;
-        let js = J3X;
-        let ns = N3X;
-        fill_bare(x, 14, 8, &mut wi);
-        fill_bare(y, 14, 12, &mut wj);
-        return checked_once(plain_sum(&wi, &wj, &is, &js, &ns));
+        return bare_sum(x, 14, 8, y, 14, 12, 36, I3X, J3X, N3X);
     }
-    let is = I3X;
-    let js = J3X;
-    let ns = N3X;
-    raw_sum(Order::Zero, Order::Zero, x, y, &is, &js, &ns)
+    rule_sum(x, 14, 8, y, 14, 12, 36, I3X, J3X, N3X)
 }
 
 // v3y(p,T)
-const I3Y: [i32; 20] = [0, 0, 0, 0, 1, 2, 2, 2, 2, 3, 3, 3, 4, 4, 5, 5, 8, 8, 10, 12];
+const I3Y: [i32; 43] = [
+    0,
+    0,
+    0,
+    0,
+    1,
+    2,
+    2,
+    2,
+    2,
+    3,
+    3,
+    3,
+    4,
+    4,
+    5,
+    5,
+    8,
+    8,
+    10,
+    12,
+    0,
+    0,
+    0,
+    0,
+    0,
+    0,
+    0,
+    0,
+    0,
+    0,
+    0,
+    0,
+    0,
+    0,
+    0,
+    0,
+    0,
+    0,
+    0,
+    0,
+    0,
+    0,
+    0,
+];
 
-const J3Y: [i32; 20] = [
+const J3Y: [i32; 43] = [
     -3,
     1,
     5,
@@ -594,9 +667,32 @@ const J3Y: [i32; 20] = [
     -2,
     -5,
     -8,
+    0,
+    0,
+    0,
+    0,
+    0,
+    0,
+    0,
+    0,
+    0,
+    0,
+    0,
+    0,
+    0,
+    0,
+    0,
+    0,
+    0,
+    0,
+    0,
+    0,
+    0,
+    0,
+    0,
 ];
 
-const N3Y: [f64; 20] = [
+const N3Y: [f64; 43] = [
     -5.25597995024633e-10,
     5.83441305228407e3,
     -1.34778968457925e16,
@@ -617,29 +713,42 @@ const N3Y: [f64; 20] = [
     -9.37808169550193e13,
     5.14411468376383e9,
     -8.28198594040141e4,
+    0.0,
+    0.0,
+    0.0,
+    0.0,
+    0.0,
+    0.0,
+    0.0,
+    0.0,
+    0.0,
+    0.0,
+    0.0,
+    0.0,
+    0.0,
+    0.0,
+    0.0,
+    0.0,
+    0.0,
+    0.0,
+    0.0,
+    0.0,
+    0.0,
+    0.0,
+    0.0,
 ];
 
 pub fn sum_y(x: f64, y: f64) -> f64
     ensures { λ r. ⌜ r ≡ orNan (sumRule term x y table3y) ⌝ }
 {
     if both_usual(x, y) {
-        let mut wi = [0.0; 129];
-        let mut wj = [0.0; 129];
-        let is = I3Y;
-        let js = J3Y;
-        let ns = N3Y;
-        fill_bare(x, 12, 0, &mut wi);
-        fill_bare(y, 8, 8, &mut wj);
-        return checked_once(plain_sum(&wi, &wj, &is, &js, &ns));
+        return bare_sum(x, 12, 0, y, 8, 8, 20, I3Y, J3Y, N3Y);
     }
-    let is = I3Y;
-    let js = J3Y;
-    let ns = N3Y;
-    raw_sum(Order::Zero, Order::Zero, x, y, &is, &js, &ns)
+    rule_sum(x, 12, 0, y, 8, 8, 20, I3Y, J3Y, N3Y)
 }
 
 // v3z(p,T)
-const I3Z: [i32; 23] = [
+const I3Z: [i32; 43] = [
     -8,
     -6,
     -5,
@@ -663,9 +772,29 @@ const I3Z: [i32; 23] = [
     6,
     8,
     8,
+    0,
+    0,
+    0,
+    0,
+    0,
+    0,
+    0,
+    0,
+    0,
+    0,
+    0,
+    0,
+    0,
+    0,
+    0,
+    0,
+    0,
+    0,
+    0,
+    0,
 ];
 
-const J3Z: [i32; 23] = [
+const J3Z: [i32; 43] = [
     3,
     6,
     6,
@@ -689,9 +818,29 @@ const J3Z: [i32; 23] = [
     -1,
     -8,
     -4,
+    0,
+    0,
+    0,
+    0,
+    0,
+    0,
+    0,
+    0,
+    0,
+    0,
+    0,
+    0,
+    0,
+    0,
+    0,
+    0,
+    0,
+    0,
+    0,
+    0,
 ];
 
-const N3Z: [f64; 23] = [
+const N3Z: [f64; 43] = [
     2.4400789229065e-11,
     -4.6305743033124e6,
     7.2880327477771e9,
@@ -715,25 +864,34 @@ const N3Z: [f64; 23] = [
     -6.8285901137457e10,
     -2.4848801561454e-4,
     3.9453604949707e6,
+    0.0,
+    0.0,
+    0.0,
+    0.0,
+    0.0,
+    0.0,
+    0.0,
+    0.0,
+    0.0,
+    0.0,
+    0.0,
+    0.0,
+    0.0,
+    0.0,
+    0.0,
+    0.0,
+    0.0,
+    0.0,
+    0.0,
+    0.0,
 ];
 
-// The same for the letters from n on.
-
+// y is tested first, so that not all of `letter_sum`'s arms begin alike: a compiler would put what they share, the test of x, before it tells them apart.
 pub fn sum_z(x: f64, y: f64) -> f64
     ensures { λ r. ⌜ r ≡ orNan (sumRule term x y table3z) ⌝ }
 {
-    if both_usual(x, y) {
-        let mut wi = [0.0; 129];
-        let mut wj = [0.0; 129];
-        let is = I3Z;
-        let js = J3Z;
-        let ns = N3Z;
-        fill_bare(x, 8, 8, &mut wi);
-        fill_bare(y, 8, 8, &mut wj);
-        return checked_once(plain_sum(&wi, &wj, &is, &js, &ns));
+    if both_usual(y, x) {
+        return bare_sum(x, 8, 8, y, 8, 8, 23, I3Z, J3Z, N3Z);
     }
-    let is = I3Z;
-    let js = J3Z;
-    let ns = N3Z;
-    raw_sum(Order::Zero, Order::Zero, x, y, &is, &js, &ns)
+    rule_sum(x, 8, 8, y, 8, 8, 23, I3Z, J3Z, N3Z)
 }

@@ -6,7 +6,8 @@ use lib.IntN.{pos}
 use lib.Ieee.{Float}
 use Rattle.common.specs.Outcome.{Outcome, value}
 use Rattle.common.specs.Decimal.{decimal, whole}
-use Rattle.rules.specs.Formula.{powerOf, rootOf, exponentialOf}
+use Rattle.rules.specs.Formula.{powerOf, exponentialOf}
+use Rattle.inverses.specs.Formula.{rootOf}
 use Rattle.algo.specs.Table.{Row}
 use Rattle.algo.specs.Table.{sumOf}
 use Rattle.subregion.specs.declared.Letter.{Letter}

@@ -1,2 +1,2 @@
 pub mod Equation
-pub mod Volumes
+pub mod State

@@ -1,18 +1,12 @@
-// The volume at (p,T): S05rev. A file has the name of the Rust's.
+// The volume by its origin: the equation of each letter (S05rev), or the critical point's. A file has the name of the Rust's where the Rust has it.
 use common::Refusal;
 use record::Origin;
 
-mod region3_v_pT;
+mod by_origin;
 mod region3_v_subregion_pT;
 
-pub use region3_v_pT::found_by;
-pub use region3_v_pT::found_pT;
-pub use region3_v_pT::origin_at;
-pub use region3_v_pT::origin_pT;
-pub use region3_v_pT::pT2v_3subreg;
-pub use region3_v_pT::pT2v_at;
-pub use region3_v_pT::pT2v_reg3;
-pub use region3_v_pT::pT2v_sat_reg3;
+pub use by_origin::found_by;
+pub use by_origin::volume_from;
 
 // A volume equation with its reducing volume, pressure and temperature and its shifts: v*, p*, T*, a, b of table 4.
 pub enum Equation {
@@ -30,20 +24,8 @@ pub enum Equation {
     Exponential(f64, f64, f64, f64, f64),
 }
 
-// Where a (p,T) call takes its volume from.
-pub enum OriginAnswer {
-    Value(Origin),
-    Refused(Refusal),
-}
-
 // What (p,T) finds: the origin of the volume, the volume and the density.
 pub enum StateAnswer {
     Value(Origin, f64, f64),
     Refused(Refusal),
-}
-
-// A side of the saturation line.
-pub enum Phase {
-    Liquid,
-    Steam,
 }

@@ -1,19 +1,18 @@
 // The volume equation of each letter: S05rev, table 4 and equations 4 and 5.
 // The steps are raw: a number that is lost travels as itself to the end.
 use crate::Equation;
-use common::or_nan;
-use rules::power;
+use inverses::raw_root;
 use rules::raw_exponential;
-use rules::raw_root;
+use rules::raw_power;
 use subregion::Letter;
 use tables::letter_sum;
 ghost use mathlib.Core.Path.{_≡_};
 ghost use Rattle.common.specs.Outcome.{check};
 ghost use Rattle.tables.specs.Summed.{summed};
-ghost use Rattle.volume.specs.Equation.{equationOf, volumeBy, volumeAt};
+ghost use Rattle.volume.specs.Equation.{equationOf, volumeBy};
 
 // Table 4: v*, p*, T*, a and b.
-fn equation(l: Letter) -> Equation
+pub fn equation(l: Letter) -> Equation
     ensures { λ r. ⌜ r ≡ equationOf l ⌝ }
 {
     match l {
@@ -47,34 +46,23 @@ fn equation(l: Letter) -> Equation
 }
 
 // The volume by an equation, with the sum of the letter's table.
-fn volume_by(e: Equation, l: Letter, p: f64, t: f64) -> f64
+pub fn volume_by(e: Equation, l: Letter, p: f64, t: f64) -> f64
     ensures { λ r. ⌜ check r ≡ volumeBy e (summed l) p t ⌝ }
 {
     match e {
         Equation::Plain(v, ps, ts, a, b) => letter_sum(l, p / ps - a, t / ts - b) * v,
         Equation::RootP(v, ps, ts, a, b) => letter_sum(l, raw_root(p / ps - a), t / ts - b) * v,
         Equation::FourthRootT(v, ps, ts, a, b) => {
-            let y = raw_root(raw_root(t / ts - b));
-            letter_sum(l, p / ps - a, y) * v
+            letter_sum(l, p / ps - a, raw_root(raw_root(t / ts - b))) * v
         }
         Equation::Fourth(v, ps, ts, a, b) => {
-            let sum = letter_sum(l, p / ps - a, t / ts - b);
-            or_nan(power(sum, 4)) * v
+            raw_power(letter_sum(l, p / ps - a, t / ts - b), 4) * v
         }
         Equation::RootPFourth(v, ps, ts, a, b) => {
-            let sum = letter_sum(l, raw_root(p / ps - a), t / ts - b);
-            or_nan(power(sum, 4)) * v
+            raw_power(letter_sum(l, raw_root(p / ps - a), t / ts - b), 4) * v
         }
         Equation::Exponential(v, ps, ts, a, b) => {
-            let sum = letter_sum(l, p / ps - a, t / ts - b);
-            raw_exponential(sum) * v
+            raw_exponential(letter_sum(l, p / ps - a, t / ts - b)) * v
         }
     }
-}
-
-// The volume in m3/kg by a letter's equation.
-pub fn raw_volume(l: Letter, p: f64, t: f64) -> f64
-    ensures { λ r. ⌜ check r ≡ volumeAt l p t ⌝ }
-{
-    volume_by(equation(l), l, p, t)
 }

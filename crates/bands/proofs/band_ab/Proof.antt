@@ -1,12 +1,10 @@
 -- `bands::band_ab` meets its contract: its one boundary is tested. Assumes nothing.
-use Rattle.common.specs.Sum.{every}
+use Rattle.bands.proofs.Lost.{if-one}
 use borrow.Author.Needs.{needs}
-use Rattle.bands.proofs.band_ab.Statement.{statement}
-use Rattle.bands.proofs.band_ab.Tie as tie
+use Rattle.bands.proofs.band_ab as own
 
-pub band-ab-spec : {M : Type 1} → statement M
-unfolding every
-band-ab-spec =
-    tie.close (tie.spec (λ c κs. search needs) (λ c κs. search needs) (λ c κs. search needs)
-    (λ c. let f = c .before .before in rw (c .by-ab .ensures, ← f .before .tabled .ensures, ← f .is-finite .ensures, c .before .if1 .taken))
-    (λ c. let f = c .before in rw (← f .before .tabled .ensures, ← f .is-finite .ensures, c .if1 .left)))
+returns : own.Tie.Need-returns
+returns c = rw (← c .before .before .tabled .ensures) (if-one _ (c .answered .ensures) (c .before .by-ab .ensures))
+
+pub band-ab-spec : {M : Type 1} → own.Statement.statement M
+band-ab-spec = own.Tie.close (own.Tie.spec (λ c κs. search needs) (λ c κs. search needs) (λ c κs. search needs) returns)

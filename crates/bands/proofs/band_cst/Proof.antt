@@ -1,10 +1,10 @@
 -- `bands::band_cst` meets its contract: the boundaries are tested together. Assumes nothing.
+use Rattle.bands.proofs.Lost.{if-all}
 use borrow.Author.Needs.{needs}
-use Rattle.bands.proofs.band_cst.Statement.{statement}
-use Rattle.bands.proofs.band_cst.Tie as tie
+use Rattle.bands.proofs.band_cst as own
 
-pub band-cst-spec : {M : Type 1} → statement M
-band-cst-spec =
-    tie.close (tie.spec (λ c κs. search needs) (λ c κs. search needs) (λ c. search needs) (λ c κs. search needs) (λ c κs. search needs)
-    (λ c. let f = c .before .before in let d = f .before .before in rw (c .by-cst .ensures, ← d .before .bare-tabled .ensures, ← d .raw-T-saturation .ensures, ← f .all-finite .ensures, c .before .if1 .taken))
-    (λ c. let f = c .before in let d = f .before .before in rw (← d .before .bare-tabled .ensures, ← d .raw-T-saturation .ensures, ← f .all-finite .ensures, c .if1 .left)))
+returns : own.Tie.Need-returns
+returns c = let d = c .before .before in rw (← d .before .bare-tabled .ensures, ← d .raw-T-saturation .ensures) (if-all _ _ (c .answered .ensures) (c .before .by-cst .ensures))
+
+pub band-cst-spec : {M : Type 1} → own.Statement.statement M
+band-cst-spec = own.Tie.close (own.Tie.spec (λ c κs. search needs) (λ c κs. search needs) (λ c κs. search needs) (λ c κs. search needs) returns)

@@ -1,12 +1,10 @@
 -- `bands::band_ct` meets its contract: its one boundary is tested. Assumes nothing.
-use Rattle.common.specs.Sum.{every}
+use Rattle.bands.proofs.Lost.{if-one}
 use borrow.Author.Needs.{needs}
-use Rattle.bands.proofs.band_ct.Statement.{statement}
-use Rattle.bands.proofs.band_ct.Tie as tie
+use Rattle.bands.proofs.band_ct as own
 
-pub band-ct-spec : {M : Type 1} → statement M
-unfolding every
-band-ct-spec =
-    tie.close (tie.spec (λ c κs. search needs) (λ c κs. search needs) (λ c κs. search needs)
-    (λ c. let f = c .before .before in rw (c .by-ct .ensures, ← f .before .raw-T-saturation .ensures, ← f .is-finite .ensures, c .before .if1 .taken))
-    (λ c. let f = c .before in rw (← f .before .raw-T-saturation .ensures, ← f .is-finite .ensures, c .if1 .left)))
+returns : own.Tie.Need-returns
+returns c = rw (← c .before .before .raw-T-saturation .ensures) (if-one _ (c .answered .ensures) (c .before .by-ct .ensures))
+
+pub band-ct-spec : {M : Type 1} → own.Statement.statement M
+band-ct-spec = own.Tie.close (own.Tie.spec (λ c κs. search needs) (λ c κs. search needs) (λ c κs. search needs) returns)

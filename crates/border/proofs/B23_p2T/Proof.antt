@@ -5,20 +5,19 @@ use Rattle.common.specs.Decimal.{scaled, decimal, whole}
 use Rattle.border.specs.Border.{B23-p2TRule}
 use Rattle.common.proofs.Calls.{going-on, turned-away}
 use borrow.Author.Needs.{needs}
-use Rattle.border.proofs.B23_p2T.Statement.{statement}
-use Rattle.border.proofs.B23_p2T.Tie as tie
+use Rattle.border.proofs.B23_p2T as own
 
-returns : tie.Need-returns
+returns : own.Tie.Need-returns
 unfolding B23-p2TRule scaled decimal whole round ofBits
 returns c =
     c .settle .ensures
     ∙ sym (c .before .p2t-steps .ensures .is)
     ∙ sym (going-on (c .before .before .before .before .check-only .ensures) _ (c .before .before .enum-told .given .1))
 
-returns-2 : tie.Need-returns-2
+returns-2 : own.Tie.Need-returns-2
 unfolding B23-p2TRule scaled decimal whole round ofBits
 returns-2 c = sym (turned-away (c .before .before .before .check-only .ensures) _ _ (c .before .k .given .1))
 
-pub B23-p2T-spec : {M : Type 1} → statement M
+pub B23-p2T-spec : {M : Type 1} → own.Statement.statement M
 B23-p2T-spec =
-    tie.close (tie.spec (λ c κs. search needs) (λ c. search needs) (λ c κs. search needs) (λ c κs. search needs) (λ c. search needs) returns returns-2)
+    own.Tie.close (own.Tie.spec (λ c κs. search needs) (λ c. search needs) (λ c κs. search needs) (λ c κs. search needs) (λ c. search needs) returns returns-2)

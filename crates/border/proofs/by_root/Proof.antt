@@ -5,19 +5,18 @@ use lib.Ieee.{Float, binary64, add, lt, ofBits, round}
 use Rattle.common.specs.Decimal.{scaled, plus}
 use Rattle.border.proofs.Never.{N4}
 use borrow.Author.Needs.{needs}
-use Rattle.border.proofs.by_root.Statement.{statement}
-use Rattle.border.proofs.by_root.Tie as tie
+use Rattle.border.proofs.by_root as own
 
 tested : (t : Float) {x y : Float} {b : Bool} → y ≡ x → lt (add binary64 N4 y) t ≡ b → not b ≡ not (lt (add binary64 N4 x) t)
 tested t e h = ap not (sym h ∙ ap (λ (y : Float). lt (add binary64 N4 y) t) e)
 
-returns : tie.Need-returns
+returns : own.Tie.Need-returns
 unfolding plus scaled round ofBits
 returns c = tested (c .before .before .args .t) (c .before .raw-root .ensures) (c .if1 .taken)
 
-returns-2 : tie.Need-returns-2
+returns-2 : own.Tie.Need-returns-2
 unfolding plus scaled round ofBits
 returns-2 c = tested (c .before .before .args .t) (c .before .raw-root .ensures) (c .if1 .left)
 
-pub by-root-spec : {M : Type 1} → statement M
-by-root-spec = tie.close (tie.spec (λ c κs. search needs) returns returns-2)
+pub by-root-spec : {M : Type 1} → own.Statement.statement M
+by-root-spec = own.Tie.close (own.Tie.spec (λ c κs. search needs) returns returns-2)

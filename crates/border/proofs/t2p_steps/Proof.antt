@@ -5,14 +5,13 @@ use Rattle.common.specs.Outcome.{orNan}
 use Rattle.common.specs.Decimal.{scaled, plus, minus}
 use Rattle.common.proofs.Formulas.{raw-value, raw-first, raw-times, _+ʳ_}
 use Rattle.border.specs.Border.{B23-T2p, n1, n2, n3}
-use Rattle.border.proofs.t2p_steps.Statement.{statement}
-use Rattle.border.proofs.t2p_steps.Tie as tie
+use Rattle.border.proofs.t2p_steps as own
 
-returns : tie.Need-returns
+returns : own.Tie.Need-returns
 unfolding B23-T2p plus minus scaled round ofBits
 returns c =
     let t = c .args .t in
     raw-value (orNan n1) refl +ʳ raw-times t (raw-value (orNan n2) refl +ʳ raw-first (mul binary64) (orNan n3) t)
 
-pub t2p-steps-spec : {M : Type 1} → statement M
-t2p-steps-spec = tie.close (tie.spec returns)
+pub t2p-steps-spec : {M : Type 1} → own.Statement.statement M
+t2p-steps-spec = own.Tie.close (own.Tie.spec returns)

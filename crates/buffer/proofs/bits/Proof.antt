@@ -6,8 +6,7 @@ use lib.Ieee.{Float, nan, inf, fin, binary64, isNan, ne, toBits}
 use lib.Ieee.Compare.{differs-from-itself, nan-differs}
 use borrow.Author.Needs.{needs}
 use Rattle.common.proofs.Laws.{never}
-use Rattle.buffer.proofs.bits.Statement.{statement}
-use Rattle.buffer.proofs.bits.Tie as tie
+use Rattle.buffer.proofs.bits as own
 
 number : (x : Float) → ne x x ≡ false → T (not (isNan x))
 unfolding isNan
@@ -15,12 +14,9 @@ number nan h = never (sym nan-differs ∙ h)
 number (inf s) h = tt
 number (fin s m e) h = tt
 
-returns : tie.Need-returns
+returns : own.Tie.Need-returns
 unfolding toBits
 returns c = ap (toBits binary64) (sym (differs-from-itself (c .before .args .x) (subst T (sym (c .if1 .taken)) tt)))
 
-float-to-bits-result : tie.Need-float-to-bits-result
-float-to-bits-result c = number (c .before .args .x) (c .if1 .left)
-
-pub bits-spec : {M : Type 1} → statement M
-bits-spec = tie.close (tie.spec float-to-bits-result returns (λ c. search needs))
+pub bits-spec : {M : Type 1} → own.Statement.statement M
+bits-spec = own.Tie.close (own.Tie.spec (λ c. number (c .before .args .x) (c .if1 .left)) returns (λ c. search needs))

@@ -2,11 +2,9 @@
 use mathlib.Core.Path.{sym}
 use lib.ListN.{List·getD-eq-default}
 use borrow.Author.Needs.{needs}
-use Rattle.buffer.proofs.byte_at.Statement.{statement}
-use Rattle.buffer.proofs.byte_at.Tie as tie
+use Rattle.buffer.proofs.byte_at as own
 
-returns-2 : tie.Need-returns-2
-returns-2 c = let a = c .before .args in sym (List·getD-eq-default (a .s .now) 0 (c .if1 .left))
-
-pub byte-at-spec : {M : Type 1} → statement M
-byte-at-spec = tie.close (tie.spec (λ c. search needs) (λ c. search needs) returns-2)
+pub byte-at-spec : {M : Type 1} → own.Statement.statement M
+byte-at-spec =
+    own.Tie.close (own.Tie.spec (λ c. search needs) (λ c. search needs)
+    (λ c. let a = c .before .args in sym (List·getD-eq-default (a .s .now) 0 (c .if1 .left))))

@@ -5,20 +5,15 @@ use mir.ValLaws.{toZ-ofZ}
 use borrow.Author.Needs.{needs}
 use borrow.Author.Tests.{leb-true}
 use Rattle.buffer.specs.Bytes.{signed}
-use Rattle.buffer.proofs.int_at.Statement.{statement}
-use Rattle.buffer.proofs.int_at.Tie as tie
+use Rattle.buffer.proofs.int_at as own
 
-half-at-requires : tie.Need-half-at-requires
-half-at-requires c κs = leb-true _ _ (sym (c .before .lies .ensures) ∙ c .if1 .taken)
-
-returns : tie.Need-returns
+returns : own.Tie.Need-returns
 returns c =
     let d = c .before .before in
     rw (← d .before .lies .ensures, d .if1 .taken)
     (toZ-ofZ w32 (c .with-sign .result) (record { sfits = c .with-sign .ok }) ∙ c .with-sign .ensures ∙ ap signed (c .before .half-at .ensures .0))
 
-returns-2 : tie.Need-returns-2
-returns-2 c = rw (← c .before .lies .ensures, c .if1 .left)
-
-pub int-at-spec : {M : Type 1} → statement M
-int-at-spec = tie.close (tie.spec (λ c κs. search needs) half-at-requires (λ c κs. search needs) returns returns-2)
+pub int-at-spec : {M : Type 1} → own.Statement.statement M
+int-at-spec =
+    own.Tie.close (own.Tie.spec (λ c κs. search needs) (λ c κs. leb-true _ _ (sym (c .before .lies .ensures) ∙ c .if1 .taken)) (λ c κs. search needs)
+    returns (λ c. rw (← c .before .lies .ensures, c .if1 .left)))

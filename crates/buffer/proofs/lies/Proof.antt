@@ -4,14 +4,9 @@ use Prim.Native.Nat.{_+_}
 use native.Mathlib.Omega.{arith}
 use borrow.Author.Tests.{lt-leb}
 use Rattle.buffer.proofs.Laws.{lies-in}
-use Rattle.buffer.proofs.lies.Statement.{statement}
-use Rattle.buffer.proofs.lies.Tie as tie
+use Rattle.buffer.proofs.lies as own
 
-returns : tie.Need-returns
-returns c = let a = c .before .args in lies-in (a .at) (a .k) (a .n) (omega arith)
-
-returns-2 : tie.Need-returns-2
-returns-2 c = let a = c .before .args in sym (lt-leb (a .at + a .k) (a .n) (omega arith))
-
-pub lies-spec : {M : Type 1} → statement M
-lies-spec = tie.close (tie.spec returns returns-2)
+pub lies-spec : {M : Type 1} → own.Statement.statement M
+lies-spec =
+    own.Tie.close (own.Tie.spec (λ c. let a = c .before .args in lies-in (a .at) (a .k) (a .n) (omega arith))
+    (λ c. let a = c .before .args in sym (lt-leb (a .at + a .k) (a .n) (omega arith))))

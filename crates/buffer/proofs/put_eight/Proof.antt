@@ -1,24 +1,47 @@
--- `buffer::put_eight` meets its contract: eight stores, one after the other. Assumes nothing.
+-- `buffer::put_eight` meets its contract: the loop keeps the bytes passed, and what is left of the number. Assumes nothing.
+use mathlib.Core.Path.{_≡_, refl, sym, ap, _∙_}
+use mathlib.Core.List.{List, [], _∷_}
+use Prim.Native.Nat.{ℕ, _+_, _-_, _/_, _%_, _^_, _≤_}
+use native.Mathlib.Nat.{div-one, le-antisymm}
 use native.Mathlib.Omega.{arith}
-use lib.ListN.{length-set}
+use lib.ListN.{length, set, length-set}
+use lib.Seq.{sets}
 use borrow.Author.Needs.{needs}
-use Rattle.buffer.proofs.Laws.{eight-stores}
-use Rattle.buffer.proofs.put_eight.Statement.{statement}
-use Rattle.buffer.proofs.put_eight.Tie as tie
+use Rattle.buffer.specs.Bytes.{joined}
+use Rattle.buffer.proofs.Laws.{pieces-more, bytesTo, byte-next, bytes-eight}
+use Rattle.buffer.proofs.put_eight as own
 
-returns : tie.Need-returns
+abbrev Inv-loop : own.Tie.InvT-loop
+Inv-loop out₀ at n rest₀ k₀ out rest k = (k ≤ 8) × (length out ≡ length out₀) × (rest ≡ n / 256 ^ k) × (out ≡ sets out₀ at (bytesTo n k))
+
+abbrev μ-loop : own.Tie.MeasureT-loop
+μ-loop out₀ at n rest₀ k₀ out rest k = 8 - k
+
+loop-holds : own.Tie.Need-loop-holds Inv-loop μ-loop
+unfolding joined
+loop-holds c = (omega arith, refl, sym (div-one (c .args .n)), refl)
+
+loop-again : own.Tie.Need-loop-again Inv-loop μ-loop
+loop-again c =
+    let l = c .before in
+    let a = l .before .args in
+    let k = l .loop .k in
+    let n = a .n in (
+      omega arith,
+      length-set (l .loop .out) (a .at + k) (l .loop .rest % 256) ∙ l .loop .inv .1,
+      ap (λ (m : ℕ). m / 256) (l .loop .inv .2) ∙ byte-next n k,
+      ap (λ (m : ℕ). set (l .loop .out) (a .at + k) (m % 256)) (l .loop .inv .2)
+          ∙ pieces-more (λ i. (n / 256 ^ i % 256) ∷ []) 1 (λ i. refl) (a .out .now) (l .loop .out) (a .at) k (a .at + k) (l .loop .inv .3) (omega arith),
+    )
+
+returns : own.Tie.Need-returns Inv-loop μ-loop
 returns c =
-    let d = c .before .before .before .before in
-    let f = d .before .before .before in
-    let a = f .before .before .args in
-    rw (← c .low8 .ensures, ← c .before .low7 .ensures, ← c .before .before .low6 .ensures, ← c .before .before .before .low5 .ensures, ← d .low4 .ensures, ← d .before .low3 .ensures, ← d .before .before .low2 .ensures, ← f .low .ensures)
-    (eight-stores (a .out .now) (a .at) (f .low .result) (d .before .before .low2 .result) (d .before .low3 .result) (d .low4 .result)
-    (c .before .before .before .low5 .result) (c .before .before .low6 .result) (c .before .low7 .result) (c .low8 .result))
+    let l = c .before in
+    let a = l .before .args in
+    let e : l .loop .k ≡ 8 = le-antisymm (l .loop .inv .0) (c .loop-test .left) in
+    l .loop .inv .3 ∙ ap (λ (xs : List ℕ). sets (a .out .now) (a .at) xs) (ap (bytesTo (a .n)) e ∙ bytes-eight (a .n))
 
-pub put-eight-spec : {M : Type 1} → statement M
+pub put-eight-spec : {M : Type 1} → own.Statement.statement M
 put-eight-spec =
-    tie.close (tie.spec (λ c κs. search needs) (λ c. search needs) (λ c κs. search needs) (λ c. search needs) (λ c. simp length-set (omega arith))
-    (λ c κs. search needs) (λ c. search needs) (λ c. simp length-set (omega arith)) (λ c κs. search needs) (λ c. search needs)
-    (λ c. simp length-set (omega arith)) (λ c κs. search needs) (λ c. search needs) (λ c. simp length-set (omega arith)) (λ c κs. search needs)
-    (λ c. search needs) (λ c. simp length-set (omega arith)) (λ c κs. search needs) (λ c. search needs) (λ c. simp length-set (omega arith))
-    (λ c κs. search needs) (λ c. search needs) (λ c. simp length-set (omega arith)) (λ c. search needs) returns)
+    own.Tie.close (own.Tie.spec Inv-loop μ-loop loop-holds (λ c. omega arith) (λ c. omega arith) (λ c. omega arith) (λ c. omega arith) (λ c. omega arith)
+    loop-again (λ c. omega arith) returns)

@@ -3,13 +3,12 @@ use mathlib.Core.Path.{ap, _∙_}
 use Prim.Native.Nat.{ℕ}
 use Rattle.buffer.specs.Bytes.{placed, eight}
 use borrow.Author.Needs.{needs}
-use Rattle.buffer.proofs.put_float.Statement.{statement}
-use Rattle.buffer.proofs.put_float.Tie as tie
+use Rattle.buffer.proofs.put_float as own
 
-returns : tie.Need-returns
+returns : own.Tie.Need-returns
 returns c =
     let a = c .before .before .before .before .before .before .args in
     c .before .before .put-word .ensures ∙ ap (λ (n : ℕ). placed (a .out .now) (a .at) (eight n)) (c .before .before .before .bits .ensures)
 
-pub put-float-spec : {M : Type 1} → statement M
-put-float-spec = tie.close (tie.spec (λ c κs. search needs) (λ c κs. search needs) (λ c. search needs) returns)
+pub put-float-spec : {M : Type 1} → own.Statement.statement M
+put-float-spec = own.Tie.close (own.Tie.spec (λ c κs. search needs) (λ c κs. search needs) (λ c. search needs) returns)

@@ -3,20 +3,19 @@ use mathlib.Core.Path.{sym, ap, _∙_}
 use borrow.Author.Needs.{needs}
 use Rattle.common.proofs.Calls.{going-on, turned-away}
 use Rattle.checks.specs.Checks.{heldTo, checkPRule}
-use Rattle.checks.proofs.check_p.Statement.{statement}
-use Rattle.checks.proofs.check_p.Tie as tie
+use Rattle.checks.proofs.check_p as own
 
-returns : tie.Need-returns
+returns : own.Tie.Need-returns
 unfolding checkPRule
 returns c =
     let s = c .before .before in
     let a = s .before .before .before .args in
     c .held .ensures ∙ ap (heldTo (a .p .0)) (c .before .state-p .ensures) ∙ sym (going-on (s .before .before .check-Td .ensures) _ (s .enum-told .given .1))
 
-returns-2 : tie.Need-returns-2
+returns-2 : own.Tie.Need-returns-2
 unfolding checkPRule
 returns-2 c = sym (turned-away (c .before .before .before .check-Td .ensures) _ _ (c .before .k .given .1))
 
-pub check-p-spec : {M : Type 1} → statement M
+pub check-p-spec : {M : Type 1} → own.Statement.statement M
 check-p-spec =
-    tie.close (tie.spec (λ c κs. search needs) (λ c. search needs) (λ c κs. search needs) (λ c κs. search needs) (λ c. search needs) returns returns-2)
+    own.Tie.close (own.Tie.spec (λ c κs. search needs) (λ c. search needs) (λ c κs. search needs) (λ c κs. search needs) (λ c. search needs) returns returns-2)

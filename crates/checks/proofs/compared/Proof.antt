@@ -5,18 +5,17 @@ use borrow.Author.Needs.{needs}
 use Rattle.common.specs.Decimal.{decimal, scaled}
 use Rattle.common.proofs.Laws.{check-kept, check-lost}
 use Rattle.checks.specs.Checks.{NEAR, judgedBy, heldTo}
-use Rattle.checks.proofs.compared.Statement.{statement}
-use Rattle.checks.proofs.compared.Tie as tie
+use Rattle.checks.proofs.compared as own
 
-returns : tie.Need-returns
+returns : own.Tie.Need-returns
 unfolding heldTo ofBits decimal scaled
 returns c =
     let k = c .before .before in
     rw (check-kept _ (sym (k .before .is-finite .ensures) ∙ k .if1 .taken)) (c .judged .ensures ∙ ap (λ e. judgedBy (le e NEAR)) (c .before .size .ensures))
 
-returns-2 : tie.Need-returns-2
+returns-2 : own.Tie.Need-returns-2
 unfolding heldTo
 returns-2 c = rw (check-lost _ (sym (c .before .is-finite .ensures) ∙ c .if1 .left))
 
-pub compared-spec : {M : Type 1} → statement M
-compared-spec = tie.close (tie.spec (λ c κs. search needs) (λ c κs. search needs) (λ c κs. search needs) returns returns-2)
+pub compared-spec : {M : Type 1} → own.Statement.statement M
+compared-spec = own.Tie.close (own.Tie.spec (λ c κs. search needs) (λ c κs. search needs) (λ c κs. search needs) returns returns-2)

@@ -2,12 +2,11 @@
 use lib.Ieee.{ofBits}
 use Rattle.common.specs.Decimal.{decimal, whole, scaled}
 use borrow.Author.Needs.{needs}
-use Rattle.common.proofs.check_ph.Statement.{statement}
-use Rattle.common.proofs.check_ph.Tie as tie
+use Rattle.common.proofs.check_ph as own
 
-returns : tie.Need-returns
+returns : own.Tie.Need-returns
 unfolding ofBits decimal whole scaled
 returns c = c .check-pair .ensures
 
-pub check-ph-spec : {M : Type 1} → statement M
-check-ph-spec = tie.close (tie.spec (λ c κs. search needs) returns)
+pub check-ph-spec : {M : Type 1} → own.Statement.statement M
+check-ph-spec = own.Tie.close (own.Tie.spec (λ c κs. search needs) returns)

@@ -2,12 +2,11 @@
 use lib.Ieee.{ofBits}
 use Rattle.common.specs.Decimal.{decimal, whole, scaled}
 use borrow.Author.Needs.{needs}
-use Rattle.common.proofs.check_ps.Statement.{statement}
-use Rattle.common.proofs.check_ps.Tie as tie
+use Rattle.common.proofs.check_ps as own
 
-returns : tie.Need-returns
+returns : own.Tie.Need-returns
 unfolding ofBits decimal whole scaled
 returns c = c .check-pair .ensures
 
-pub check-ps-spec : {M : Type 1} → statement M
-check-ps-spec = tie.close (tie.spec (λ c κs. search needs) returns)
+pub check-ps-spec : {M : Type 1} → own.Statement.statement M
+check-ps-spec = own.Tie.close (own.Tie.spec (λ c κs. search needs) returns)

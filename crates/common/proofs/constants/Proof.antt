@@ -4,12 +4,11 @@ use mathlib.Core.Path.{refl}
 use lib.Ieee.{ofBits}
 use Rattle.common.specs.Constant.{printed}
 use Rattle.common.specs.Decimal.{decimal, whole, scaled}
-use Rattle.common.proofs.constants.Statement.{statement}
-use Rattle.common.proofs.constants.Tie as tie
+use Rattle.common.proofs.constants as own
 
-returns : tie.Need-returns
+returns : own.Tie.Need-returns
 unfolding ofBits printed decimal whole scaled
 returns c = refl
 
-pub constants-spec : {M : Type 1} → statement M
-constants-spec = tie.close (tie.spec returns)
+pub constants-spec : {M : Type 1} → own.Statement.statement M
+constants-spec = own.Tie.close (own.Tie.spec returns)

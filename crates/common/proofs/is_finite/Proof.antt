@@ -4,8 +4,7 @@ use mathlib.Core.Path.{_≡_, refl, sym}
 use mathlib.Core.Bool.{true, false}
 use lib.Ieee.{Float, nan, inf, fin, lt, neg, div, ofBits}
 use Rattle.common.specs.Outcome.{finite}
-use Rattle.common.proofs.is_finite.Statement.{statement}
-use Rattle.common.proofs.is_finite.Tie as tie
+use Rattle.common.proofs.is_finite as own
 
 above : (x : Float) → lt x (inf false) ≡ true → lt (inf true) x ≡ finite x
 unfolding lt
@@ -20,13 +19,13 @@ not-below nan h = refl
 not-below (inf s) h = refl
 not-below (fin s m e) h = sym h
 
-returns : tie.Need-returns
+returns : own.Tie.Need-returns
 unfolding lt neg div ofBits
 returns c = above (c .before .args .x) (c .if1 .taken)
 
-returns-2 : tie.Need-returns-2
+returns-2 : own.Tie.Need-returns-2
 unfolding lt neg div ofBits
 returns-2 c = not-below (c .before .args .x) (c .if1 .left)
 
-pub is-finite-spec : {M : Type 1} → statement M
-is-finite-spec = tie.close (tie.spec returns returns-2)
+pub is-finite-spec : {M : Type 1} → own.Statement.statement M
+is-finite-spec = own.Tie.close (own.Tie.spec returns returns-2)

@@ -1,12 +1,5 @@
 -- `common::ranged` meets its contract: both ends are tested, the lower first. Assumes nothing.
-use Rattle.common.proofs.ranged.Statement.{statement}
-use Rattle.common.proofs.ranged.Tie as tie
+use Rattle.common.proofs.ranged as own
 
-returns : tie.Need-returns
-returns c = rw (c .if1 .taken)
-
-returns-2 : tie.Need-returns-2
-returns-2 c = rw (c .if1 .left)
-
-pub ranged-spec : {M : Type 1} → statement M
-ranged-spec = tie.close (tie.spec returns returns-2)
+pub ranged-spec : {M : Type 1} → own.Statement.statement M
+ranged-spec = own.Tie.close (own.Tie.spec (λ c. rw (c .if1 .taken)) (λ c. rw (c .if1 .left)))

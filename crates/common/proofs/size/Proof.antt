@@ -1,15 +1,14 @@
 -- `common::size` meets its contract: by the sign. Assumes nothing.
 use lib.Ieee.{ofBits}
-use Rattle.common.proofs.size.Statement.{statement}
-use Rattle.common.proofs.size.Tie as tie
+use Rattle.common.proofs.size as own
 
-returns : tie.Need-returns
+returns : own.Tie.Need-returns
 unfolding ofBits
 returns c = rw (c .if1 .taken)
 
-returns-2 : tie.Need-returns-2
+returns-2 : own.Tie.Need-returns-2
 unfolding ofBits
 returns-2 c = rw (c .if1 .left)
 
-pub size-spec : {M : Type 1} → statement M
-size-spec = tie.close (tie.spec returns returns-2)
+pub size-spec : {M : Type 1} → own.Statement.statement M
+size-spec = own.Tie.close (own.Tie.spec returns returns-2)

@@ -2,11 +2,10 @@
 use mathlib.Core.Path.{sym}
 use lib.Seq.{length-take-le}
 use borrow.Author.Needs.{needs}
-use Rattle.exchange.proofs.turn.Statement.{statement}
-use Rattle.exchange.proofs.turn.Tie as tie
+use Rattle.exchange.proofs.turn as own
 
-pub turn-spec : {M : Type 1} → statement M
+pub turn-spec : {M : Type 1} → own.Statement.statement M
 turn-spec =
-    tie.close (tie.spec (λ c. search needs) (λ c. search needs) (λ c κs. search needs) (λ c. search needs) (λ c κs. search needs) (λ c. search needs)
+    own.Tie.close (own.Tie.spec (λ c. search needs) (λ c. search needs) (λ c κs. search needs) (λ c. search needs) (λ c κs. search needs) (λ c. search needs)
     (λ c κs. search needs) (λ c. search needs) (λ c. sym (length-take-le _ _ (search needs))) (λ c κs. search needs) (λ c. search needs)
     (λ c. search needs))

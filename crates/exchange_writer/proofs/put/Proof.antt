@@ -1,23 +1,25 @@
--- `exchange_writer::put` meets its contract: the record's 22 bytes have room. Assumes nothing.
-use mathlib.Core.Path.{_≡_, ap, _∙_}
+-- `exchange_writer::put` meets its contract: two fields of eleven bytes, one after the other. Assumes nothing.
+use mathlib.Core.Path.{ap, _∙_}
 use mathlib.Core.List.{List}
 use Prim.Native.Nat.{ℕ}
-use native.Mathlib.Omega.{arith}
 use lib.ListN.{length}
 use lib.Seq.{sets}
 use borrow.Author.Needs.{needs}
-use Rattle.text.proofs.Laws.{fitted}
-use Rattle.exchange_writer.proofs.Laws.{record-length}
-use Rattle.exchange_writer.proofs.put.Statement.{statement}
-use Rattle.exchange_writer.proofs.put.Tie as tie
+use Rattle.exchange_writer.proofs.Laws.{two-runs}
+use Rattle.exchange_writer.proofs.put as own
 
-returns : tie.Need-returns
+returns : own.Tie.Need-returns
 returns c =
-    let s = c .before .before .before .before .before in
-    let a = s .before .before .args in
-    let long : length (s .record-of .result) ≡ 22 = ap length (s .record-of .ensures) ∙ record-length (a .point) in
-    let wrote = fitted (length (s .record-of .result)) (omega (arith, long)) (c .before .before .put .ensures) in
-    wrote .holds ∙ ap (λ (m : List ℕ). sets (a .out .now) 0 m) (s .record-of .ensures)
+    let second = c .before .before in
+    let g = second .before .before in
+    let first = g .before .before .before .before in
+    let f = first .before .before in
+    let t = f .before .before in
+    let a = t .before .before .args in
+    two-runs (a .out .now) _ _ (f .field .result) (g .field2 .result) (ap length (f .field .ensures)) (ap length (g .field2 .ensures)) (search needs) (first .put .ensures) (second .put2 .ensures)
+    ∙ rw (f .field .ensures, g .field2 .ensures) (ap (λ (l : List ℕ). sets (a .out .now) 0 l) (t .fields-of .ensures))
 
-pub put-spec : {M : Type 1} → statement M
-put-spec = tie.close (tie.spec (λ c κs. search needs) (λ c. search needs) (λ c κs. search needs) (λ c. search needs) returns)
+pub put-spec : {M : Type 1} → own.Statement.statement M
+put-spec =
+    own.Tie.close (own.Tie.spec (λ c κs. search needs) (λ c κs. search needs) (λ c. search needs) (λ c κs. search needs) (λ c κs. search needs)
+    (λ c. search needs) (λ c κs. search needs) (λ c. search needs) returns)

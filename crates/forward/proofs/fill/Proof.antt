@@ -3,16 +3,15 @@ use mathlib.Core.Path.{_≡_}
 use Prim.Native.Nat.{_-_}
 use lib.ListN.{length}
 use borrow.Author.Needs.{needs}
-use Rattle.forward.proofs.fill.Statement.{statement}
-use Rattle.forward.proofs.fill.Tie as tie
+use Rattle.forward.proofs.fill as own
 
-abbrev Inv-loop : tie.InvT-loop
+abbrev Inv-loop : own.Tie.InvT-loop
 Inv-loop out₀ byte k₀ out k = length out ≡ length out₀
 
-abbrev μ-loop : tie.MeasureT-loop
+abbrev μ-loop : own.Tie.MeasureT-loop
 μ-loop out₀ byte k₀ out k = length out₀ - k
 
-pub fill-spec : {M : Type 1} → statement M
+pub fill-spec : {M : Type 1} → own.Statement.statement M
 fill-spec =
-    tie.close (tie.spec Inv-loop μ-loop (λ c. search needs) (λ c. search needs) (λ c. search needs) (λ c. search needs) (λ c. search needs)
+    own.Tie.close (own.Tie.spec Inv-loop μ-loop (λ c. search needs) (λ c. search needs) (λ c. search needs) (λ c. search needs) (λ c. search needs)
     (λ c. search needs) (λ c. search needs))

@@ -1,11 +1,10 @@
 -- `joint::divide` meets its contract, share by share: each arm knows which share it is for. Assumes nothing.
 use borrow.Author.Needs.{needs}
-use Rattle.joint.proofs.divide.Statement.{statement}
-use Rattle.joint.proofs.divide.Tie as tie
+use Rattle.joint.proofs.divide as own
 
-pub divide-spec : {M : Type 1} → statement M
+pub divide-spec : {M : Type 1} → own.Statement.statement M
 divide-spec =
-    tie.close (tie.spec (λ c. search needs) (λ c. search needs) (λ c κs. search needs) (λ c. search needs) (λ c κs. search needs) (λ c. search needs)
+    own.Tie.close (own.Tie.spec (λ c. search needs) (λ c. search needs) (λ c κs. search needs) (λ c. search needs) (λ c κs. search needs) (λ c. search needs)
     (λ c κs. search needs) (λ c. search needs) (λ c κs. search needs) (λ c. search needs) (λ c κs. search needs) (λ c. search needs)
     (λ c κs. search needs) (λ c. search needs) (λ c. rw (c .before .enum-told2 .given .1) (c .over .ensures))
     (λ c. rw (c .before .enum-told3 .given .1) (c .over2 .ensures)) (λ c. rw (c .before .enum-told4 .given .1) (c .over3 .ensures))

@@ -9,14 +9,13 @@ use Rattle.common.specs.declared.Answer.{Answer}
 use Rattle.border.specs.Border.{B23-T2p}
 use Rattle.place.specs.AcceptedPlace.{densitiesAt}
 use Rattle.place.proofs.Laws.{T2p-settled}
-use Rattle.place.proofs.densities.Statement.{statement}
-use Rattle.place.proofs.densities.Tie as tie
+use Rattle.place.proofs.densities as own
 
 -- the border's p, from what was answered
-border : (c : tie.After-settle) (a : Answer) → c .settle .result ≡ a → B23-T2p (c .before .before .args .t) ≡ paper a
+border : (c : own.Tie.After-settle) (a : Answer) → c .settle .result ≡ a → B23-T2p (c .before .before .args .t) ≡ paper a
 border c a e = sym (T2p-settled _) ∙ ap check (sym (c .before .raw-B23-T2p .ensures)) ∙ sym (c .settle .ensures) ∙ ap paper e
 
-returns : tie.Need-returns
+returns : own.Tie.Need-returns
 unfolding densitiesAt ofBits whole scaled round
 returns c =
     let s2 = c .before .before .before in
@@ -28,7 +27,7 @@ returns c =
       sym (s2 .density-at2 .ensures) ∙ ap paper (c .before .d2 .given .1),
     )
 
-returns-2 : tie.Need-returns-2
+returns-2 : own.Tie.Need-returns-2
 unfolding densitiesAt ofBits whole scaled round
 returns-2 c =
     let s2 = c .before .before .before in
@@ -40,18 +39,18 @@ returns-2 c =
       sym (s2 .density-at2 .ensures) ∙ ap paper (c .before .k .given .1),
     )
 
-returns-3 : tie.Need-returns-3
+returns-3 : own.Tie.Need-returns-3
 unfolding densitiesAt
 returns-3 c =
     let s1 = c .before .before .before in
     let s0 = s1 .before .before .before .before in
     rw (border s0 _ (s1 .before .before .p .given .1), sym (s1 .density-at .ensures) ∙ ap paper (c .before .k2 .given .1))
 
-returns-4 : tie.Need-returns-4
+returns-4 : own.Tie.Need-returns-4
 unfolding densitiesAt
 returns-4 c = rw (border (c .before .before .before) _ (c .before .k3 .given .1))
 
-pub densities-spec : {M : Type 1} → statement M
+pub densities-spec : {M : Type 1} → own.Statement.statement M
 densities-spec =
-    tie.close (tie.spec (λ c κs. search needs) (λ c κs. search needs) (λ c. search needs) (λ c κs. search needs) (λ c. search needs)
+    own.Tie.close (own.Tie.spec (λ c κs. search needs) (λ c κs. search needs) (λ c. search needs) (λ c κs. search needs) (λ c. search needs)
     (λ c κs. search needs) (λ c. search needs) (λ c. search needs) (λ c. search needs) (λ c. search needs) returns returns-2 returns-3 returns-4)

@@ -4,28 +4,27 @@ use borrow.Author.Needs.{needs}
 use Rattle.common.specs.Answer.{paperVerdict}
 use Rattle.secant.specs.Secant.{paperProposal}
 use Rattle.place.specs.AcceptedPlace.{foundOn}
-use Rattle.place.proofs.found.Statement.{statement}
-use Rattle.place.proofs.found.Tie as tie
+use Rattle.place.proofs.found as own
 
-returns : tie.Need-returns
+returns : own.Tie.Need-returns
 unfolding foundOn
 returns c =
     let a = c .before .before in
     let p = a .before .before .before .before in
     rw (sym (p .proposed .ensures) ∙ ap paperProposal (a .before .before .x .given .1), sym (a .accept .ensures) ∙ ap paperVerdict (c .enum-told .given .1))
 
-returns-2 : tie.Need-returns-2
+returns-2 : own.Tie.Need-returns-2
 unfolding foundOn
 returns-2 c =
     let a = c .before .before .before in
     let p = a .before .before .before .before in
     rw (sym (p .proposed .ensures) ∙ ap paperProposal (a .before .before .x .given .1), sym (a .accept .ensures) ∙ ap paperVerdict (c .before .k .given .1))
 
-returns-3 : tie.Need-returns-3
+returns-3 : own.Tie.Need-returns-3
 unfolding foundOn
 returns-3 c = rw (sym (c .before .before .before .proposed .ensures) ∙ ap paperProposal (c .before .k2 .given .1))
 
-pub found-spec : {M : Type 1} → statement M
+pub found-spec : {M : Type 1} → own.Statement.statement M
 found-spec =
-    tie.close (tie.spec (λ c κs. search needs) (λ c. search needs) (λ c κs. search needs) (λ c. search needs) (λ c. search needs) (λ c. search needs)
+    own.Tie.close (own.Tie.spec (λ c κs. search needs) (λ c. search needs) (λ c κs. search needs) (λ c. search needs) (λ c. search needs) (λ c. search needs)
     returns returns-2 returns-3)

@@ -2,16 +2,15 @@
 use mathlib.Core.Path.{sym, ap, _∙_}
 use borrow.Author.Needs.{needs}
 use Rattle.place.specs.AcceptedPlace.{proposedFor, paperStarts}
-use Rattle.place.proofs.proposed.Statement.{statement}
-use Rattle.place.proofs.proposed.Tie as tie
+use Rattle.place.proofs.proposed as own
 
-returns : tie.Need-returns
+returns : own.Tie.Need-returns
 unfolding proposedFor
 returns c = let s = c .before .before in rw (sym (s .before .before .starts .ensures) ∙ ap paperStarts (s .x1 .given .1)) (c .rtsec .ensures)
 
-returns-2 : tie.Need-returns-2
+returns-2 : own.Tie.Need-returns-2
 unfolding proposedFor
 returns-2 c = rw (sym (c .before .before .before .starts .ensures) ∙ ap paperStarts (c .before .k .given .1))
 
-pub proposed-spec : {M : Type 1} → statement M
-proposed-spec = tie.close (tie.spec (λ c κs. search needs) (λ c. search needs) (λ c κs. search needs) (λ c. search needs) returns returns-2)
+pub proposed-spec : {M : Type 1} → own.Statement.statement M
+proposed-spec = own.Tie.close (own.Tie.spec (λ c κs. search needs) (λ c. search needs) (λ c κs. search needs) (λ c. search needs) returns returns-2)

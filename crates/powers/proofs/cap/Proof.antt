@@ -1,7 +1,6 @@
 -- `powers::cap` meets its contract.
 use native.Mathlib.Omega.{arith}
-use Rattle.powers.proofs.cap.Statement.{statement}
-use Rattle.powers.proofs.cap.Tie as tie
+use Rattle.powers.proofs.cap as own
 
-pub cap-spec : {M : Type 1} → statement M
-cap-spec = tie.close (tie.spec (λ c. omega arith) (λ c. omega arith))
+pub cap-spec : {M : Type 1} → own.Statement.statement M
+cap-spec = own.Tie.close (own.Tie.spec (λ c. omega arith) (λ c. omega arith))

@@ -12,8 +12,7 @@ use borrow.Author.Needs.{needs}
 use borrow.Author.Tests.{lt-ltb}
 use Rattle.powers.specs.Powers.{exponentAt}
 use Rattle.powers.proofs.Exponents.{small}
-use Rattle.powers.proofs.exponent_at.Statement.{statement}
-use Rattle.powers.proofs.exponent_at.Tie as tie
+use Rattle.powers.proofs.exponent_at as own
 
 as-is : (k : ℕ) → k < 129 → toZ w32 k ≡ pos k
 as-is k h = rw (lt-ltb k (2 ^ 31) (omega arith))
@@ -25,13 +24,12 @@ less-64 k = by (ltb k 64) refl
     by true e = rw e (ap negsuc (omega arith))
     by false e = rw e
 
-sub-result : tie.Need-sub-result
-sub-result c = rw (as-is (c .args .k) (c .pre), less-64 (c .args .k)) (small (c .args .k) (c .pre))
-
-returns : tie.Need-returns
+returns : own.Tie.Need-returns
 returns c =
     let s = c in
     rw (as-is (s .args .k) (s .pre), less-64 (s .args .k)) (toZ-ofZ w32 (exponentAt (s .args .k)) (small (s .args .k) (s .pre)))
 
-pub exponent-at-spec : {M : Type 1} → statement M
-exponent-at-spec = tie.close (tie.spec (λ c. search needs) sub-result returns)
+pub exponent-at-spec : {M : Type 1} → own.Statement.statement M
+exponent-at-spec =
+    own.Tie.close (own.Tie.spec (λ c. search needs) (λ c. rw (as-is (c .args .k) (c .pre), less-64 (c .args .k)) (small (c .args .k) (c .pre)))
+    returns)

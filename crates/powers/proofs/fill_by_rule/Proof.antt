@@ -11,19 +11,18 @@ use borrow.Author.Needs.{needs}
 use Rattle.powers.specs.Powers.{exponentAt, WrittenBy, ruled}
 use Rattle.powers.proofs.Exponents.{small}
 use Rattle.powers.proofs.Doubling.{written-none, written-next}
-use Rattle.powers.proofs.fill_by_rule.Statement.{statement}
-use Rattle.powers.proofs.fill_by_rule.Tie as tie
+use Rattle.powers.proofs.fill_by_rule as own
 
-abbrev Inv-loop : tie.InvT-loop
+abbrev Inv-loop : own.Tie.InvT-loop
 Inv-loop a lo hi w₀ k₀ w k = (lo ≤ k) × (k ≤ hi) × (length w₀ ≡ 129 → WrittenBy (ruled a) w₀ w lo k)
 
-abbrev μ-loop : tie.MeasureT-loop
+abbrev μ-loop : own.Tie.MeasureT-loop
 μ-loop a lo hi w₀ k₀ w k = hi - k
 
-loop-holds : tie.Need-loop-holds Inv-loop μ-loop
+loop-holds : own.Tie.Need-loop-holds Inv-loop μ-loop
 loop-holds c = (omega arith, omega arith, λ e. written-none (ruled (c .args .a)) (c .args .w .now) (c .args .lo) e)
 
-loop-again : tie.Need-loop-again Inv-loop μ-loop
+loop-again : own.Tie.Need-loop-again Inv-loop μ-loop
 loop-again c =
     let l = c .before .before .before in
     let a = l .before .args in
@@ -34,13 +33,13 @@ loop-again c =
           (c .raw-power .ensures ∙ ap (ruled (a .a)) (ap (λ (n : ℤ). toZ w32 (ofZ w32 n)) (c .before .exponent-at .ensures) ∙ toZ-ofZ w32 (exponentAt k) (small k (omega arith)))) (l .loop .inv .2 e),
     )
 
-returns : tie.Need-returns Inv-loop μ-loop
+returns : own.Tie.Need-returns Inv-loop μ-loop
 returns c =
     let l = c .before in
     let done : l .loop .k ≡ l .before .args .hi = omega arith in
     rw done at (l .loop .inv .2)
 
-pub fill-by-rule-spec : {M : Type 1} → statement M
+pub fill-by-rule-spec : {M : Type 1} → own.Statement.statement M
 fill-by-rule-spec =
-    tie.close (tie.spec Inv-loop μ-loop loop-holds (λ c κs. omega arith) (λ c κs. search needs) (λ c. omega arith) (λ c. omega arith)
+    own.Tie.close (own.Tie.spec Inv-loop μ-loop loop-holds (λ c κs. omega arith) (λ c κs. search needs) (λ c. omega arith) (λ c. omega arith)
     (λ c. omega arith) (λ c. omega arith) loop-again returns)

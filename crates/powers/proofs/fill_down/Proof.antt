@@ -8,19 +8,15 @@ use lib.Ieee.{Float, ofBits}
 use borrow.Author.Needs.{needs}
 use Rattle.powers.specs.Powers.{Written}
 use Rattle.powers.proofs.Doubling.{written-down}
-use Rattle.powers.proofs.fill_down.Statement.{statement}
-use Rattle.powers.proofs.fill_down.Tie as tie
+use Rattle.powers.proofs.fill_down as own
 
-abbrev Inv-loop : tie.InvT-loop
+abbrev Inv-loop : own.Tie.InvT-loop
 Inv-loop low w₀ k₀ w k = (k ≤ low) × ((a : Float) (b : List Float) (hi : ℕ) → 65 + low ≤ hi → Written a b w₀ 64 hi → Written a b w (64 - k) hi)
 
-abbrev μ-loop : tie.MeasureT-loop
+abbrev μ-loop : own.Tie.MeasureT-loop
 μ-loop low w₀ k₀ w k = low - k
 
-loop-holds : tie.Need-loop-holds Inv-loop μ-loop
-loop-holds c = (omega arith, λ a b hi n f. f)
-
-loop-again : tie.Need-loop-again Inv-loop μ-loop
+loop-again : own.Tie.Need-loop-again Inv-loop μ-loop
 unfolding ofBits
 loop-again c =
     let l = c .before .before .before in
@@ -30,13 +26,14 @@ loop-again c =
       λ a b hi n f. rw (c .over .ensures) (written-down a b w hi k (omega arith) (omega arith) (l .loop .inv .1 a b hi n f)),
     )
 
-returns : tie.Need-returns Inv-loop μ-loop
+returns : own.Tie.Need-returns Inv-loop μ-loop
 returns c =
     let l = c .before in
     let done : l .loop .k ≡ l .before .args .low = omega arith in
     λ a b hi n f. rw done at (l .loop .inv .1 a b hi n f)
 
-pub fill-down-spec : {M : Type 1} → statement M
+pub fill-down-spec : {M : Type 1} → own.Statement.statement M
 fill-down-spec =
-    tie.close (tie.spec Inv-loop μ-loop loop-holds (λ c. omega arith) (λ c. omega arith) (λ c. omega arith) (λ c. omega arith) (λ c κs. search needs)
-    (λ c. omega arith) (λ c. omega arith) (λ c. omega arith) (λ c. omega arith) (λ c. omega arith) loop-again returns)
+    own.Tie.close (own.Tie.spec Inv-loop μ-loop (λ c. (omega arith, λ a b hi n f. f)) (λ c. omega arith) (λ c. omega arith) (λ c. omega arith)
+    (λ c. omega arith) (λ c κs. search needs) (λ c. omega arith) (λ c. omega arith) (λ c. omega arith) (λ c. omega arith) (λ c. omega arith)
+    loop-again returns)

@@ -11,8 +11,7 @@ use borrow.Author.Needs.{needs}
 use Rattle.powers.specs.Reach.{squared}
 use Rattle.powers.specs.Powers.{Written}
 use Rattle.powers.proofs.Doubling.{written-one, written-same}
-use Rattle.powers.proofs.fill_up.Statement.{statement}
-use Rattle.powers.proofs.fill_up.Tie as tie
+use Rattle.powers.proofs.fill_up as own
 
 -- of h more powers, or as many as reach t, as many as that are made
 record Made (h t r : ℕ) : Type 0 where
@@ -30,51 +29,51 @@ all : (t : ℕ) → 64 ≤ t → t ≤ 64 → 129 ≡ 72 + (t - 7)
 all t p q = omega arith
 
 -- the powers from 0 on that stand in w
-abbrev Full : tie.Start → List Float → ℕ → Type 0
+abbrev Full : own.Tie.Start → List Float → ℕ → Type 0
 Full s w hi = length (s .args .w .now) ≡ 129 → Written (s .args .a) (s .args .w .now) w 64 hi
 
 -- ---- where the function began, from after each doubling
 
-abbrev from1 : tie.After-double → tie.Start
+abbrev from1 : own.Tie.After-double → own.Tie.Start
 from1 c = c .before .before
 
-abbrev from2 : tie.After-double2 → tie.Start
+abbrev from2 : own.Tie.After-double2 → own.Tie.Start
 from2 c = from1 (c .before .before)
 
-abbrev from3 : tie.After-double3 → tie.Start
+abbrev from3 : own.Tie.After-double3 → own.Tie.Start
 from3 c = from2 (c .before .before)
 
-abbrev from4 : tie.After-double4 → tie.Start
+abbrev from4 : own.Tie.After-double4 → own.Tie.Start
 from4 c = from3 (c .before .before .before .before)
 
-abbrev from5 : tie.After-double5 → tie.Start
+abbrev from5 : own.Tie.After-double5 → own.Tie.Start
 from5 c = from4 (c .before .before .before .before)
 
-abbrev from6 : tie.After-double6 → tie.Start
+abbrev from6 : own.Tie.After-double6 → own.Tie.Start
 from6 c = from5 (c .before .before .before .before)
 
-abbrev from7 : tie.After-double7 → tie.Start
+abbrev from7 : own.Tie.After-double7 → own.Tie.Start
 from7 c = from6 (c .before .before .before)
 
 -- ---- what stands then
 
-full1 : (c : tie.After-double) → Full (from1 c) (c .double .last .1 .1 .1 .0) 66
+full1 : (c : own.Tie.After-double) → Full (from1 c) (c .double .last .1 .1 .1 .0) 66
 unfolding squared ofBits
 full1 c e = let s = from1 c .args in c .double .ensures (s .a) (s .w .now) 0 (lit≤ tt) refl refl (written-one (s .a) (s .w .now) e)
 
-full2 : (c : tie.After-double2) → Full (from2 c) (c .double2 .last .1 .1 .1 .0) 68
+full2 : (c : own.Tie.After-double2) → Full (from2 c) (c .double2 .last .1 .1 .1 .0) 68
 unfolding squared
 full2 c e = let s = from2 c .args in c .double2 .ensures (s .a) (s .w .now) 1 (lit≤ tt) refl refl (full1 (c .before .before) e)
 
-full3 : (c : tie.After-double3) → Full (from3 c) (c .double3 .last .1 .1 .1 .0) 72
+full3 : (c : own.Tie.After-double3) → Full (from3 c) (c .double3 .last .1 .1 .1 .0) 72
 unfolding squared
 full3 c e = let s = from3 c .args in c .double3 .ensures (s .a) (s .w .now) 2 (lit≤ tt) refl refl (full2 (c .before .before) e)
 
-full4 : (c : tie.After-double4) → Full (from4 c) (c .double4 .last .1 .1 .1 .0) (64 + 8 + c .before .before .least .result)
+full4 : (c : own.Tie.After-double4) → Full (from4 c) (c .double4 .last .1 .1 .1 .0) (64 + 8 + c .before .before .least .result)
 unfolding squared
 full4 c e = let s = from4 c .args in c .double4 .ensures (s .a) (s .w .now) 3 (lit≤ tt) refl refl (full3 (c .before .before .before .before) e)
 
-full5 : (c : tie.After-double5) → Full (from5 c) (c .double5 .last .1 .1 .1 .0) (64 + 16 + c .before .before .least2 .result)
+full5 : (c : own.Tie.After-double5) → Full (from5 c) (c .double5 .last .1 .1 .1 .0) (64 + 16 + c .before .before .least2 .result)
 unfolding squared
 full5 c e =
     let s = from5 c .args in
@@ -82,7 +81,7 @@ full5 c e =
     c .double5 .ensures (s .a) (s .w .now) 4 (lit≤ tt) refl refl
     (written-same (s .a) (s .w .now) (d .double4 .last .1 .1 .1 .0) 64 _ 80 (made 7 (s .top) _ (lit≤ tt) (d .before .before .least .ensures) .whole (c .before .before .before .if2 .taken)) (full4 d e))
 
-full6 : (c : tie.After-double6) → Full (from6 c) (c .double6 .last .1 .1 .1 .0) (64 + 32 + c .before .before .least3 .result)
+full6 : (c : own.Tie.After-double6) → Full (from6 c) (c .double6 .last .1 .1 .1 .0) (64 + 32 + c .before .before .least3 .result)
 unfolding squared
 full6 c e =
     let s = from6 c .args in
@@ -90,7 +89,7 @@ full6 c e =
     c .double6 .ensures (s .a) (s .w .now) 5 (lit≤ tt) refl refl
     (written-same (s .a) (s .w .now) (d .double5 .last .1 .1 .1 .0) 64 _ 96 (made 15 (s .top) _ (lit≤ tt) (d .before .before .least2 .ensures) .whole (c .before .before .before .if3 .taken)) (full5 d e))
 
-full7 : (c : tie.After-double7) → Full (from7 c) (c .double7 .last .1 .1 .1 .0) 129
+full7 : (c : own.Tie.After-double7) → Full (from7 c) (c .double7 .last .1 .1 .1 .0) 129
 unfolding squared
 full7 c e =
     let s = from7 c .args in
@@ -98,44 +97,42 @@ full7 c e =
     c .double7 .ensures (s .a) (s .w .now) 6 (lit≤ tt) refl refl
     (written-same (s .a) (s .w .now) (d .double6 .last .1 .1 .1 .0) 64 _ 128 (made 31 (s .top) _ (lit≤ tt) (d .before .before .least3 .ensures) .whole (c .before .before .if4 .taken)) (full6 d e))
 
-double-requires-6 : tie.Need-double-requires-6
-double-requires-6 c κs = (omega (arith, c .before .least3 .ensures), omega (arith, c .before .least3 .ensures))
-
 -- ---- the ways out
 
-returns : tie.Need-returns
+returns : own.Tie.Need-returns
 returns c = λ e.
     let s = from7 c in
     written-same (s .args .a) (s .args .w .now) (c .double7 .last .1 .1 .1 .0) 64 129 _ (all (s .args .top) (c .before .before .if4 .taken) (s .pre)) (full7 c e)
 
-returns-2 : tie.Need-returns-2
+returns-2 : own.Tie.Need-returns-2
 returns-2 c = λ e.
     let d = c .before in
     let s = from6 d .args in
     let m = made 31 (s .top) _ (lit≤ tt) (d .before .before .least3 .ensures) in
     written-same (s .a) (s .w .now) (d .double6 .last .1 .1 .1 .0) 64 _ _ (m .part (d .before .before .before .if3 .taken) (c .if4 .left)) (full6 d e)
 
-returns-3 : tie.Need-returns-3
+returns-3 : own.Tie.Need-returns-3
 returns-3 c = λ e.
     let d = c .before in
     let s = from5 d .args in
     let m = made 15 (s .top) _ (lit≤ tt) (d .before .before .least2 .ensures) in
     written-same (s .a) (s .w .now) (d .double5 .last .1 .1 .1 .0) 64 _ _ (m .part (d .before .before .before .if2 .taken) (c .if3 .left)) (full5 d e)
 
-returns-4 : tie.Need-returns-4
+returns-4 : own.Tie.Need-returns-4
 returns-4 c = λ e.
     let d = c .before in
     let s = from4 d .args in
     let m = made 7 (s .top) _ (lit≤ tt) (d .before .before .least .ensures) in
     written-same (s .a) (s .w .now) (d .double4 .last .1 .1 .1 .0) 64 _ _ (m .part (d .before .before .before .if1 .taken) (c .if2 .left)) (full4 d e)
 
-returns-5 : tie.Need-returns-5
+returns-5 : own.Tie.Need-returns-5
 returns-5 c = λ e.
     let s = from3 (c .before) .args in
     written-same (s .a) (s .w .now) (c .before .double3 .last .1 .1 .1 .0) 64 72 _ (none (s .top) (c .if1 .left)) (full3 (c .before) e)
 
-pub fill-up-spec : {M : Type 1} → statement M
+pub fill-up-spec : {M : Type 1} → own.Statement.statement M
 fill-up-spec =
-    tie.close (tie.spec (λ c. search needs) (λ c κs. search needs) (λ c κs. search needs) (λ c κs. search needs) (λ c. search needs)
+    own.Tie.close (own.Tie.spec (λ c. search needs) (λ c κs. search needs) (λ c κs. search needs) (λ c κs. search needs) (λ c. search needs)
     (λ c κs. search needs) (λ c κs. search needs) (λ c. search needs) (λ c κs. search needs) (λ c κs. search needs) (λ c. search needs)
-    (λ c κs. search needs) double-requires-6 (λ c κs. search needs) returns returns-2 returns-3 returns-4 returns-5)
+    (λ c κs. search needs) (λ c κs. (omega (arith, c .before .least3 .ensures), omega (arith, c .before .least3 .ensures))) (λ c κs. search needs)
+    returns returns-2 returns-3 returns-4 returns-5)

@@ -5,20 +5,19 @@ use Rattle.common.specs.Decimal.{scaled, decimal, plus, minus}
 use Rattle.r4.specs.Saturation.{T-saturationRule}
 use Rattle.common.proofs.Calls.{going-on, turned-away}
 use borrow.Author.Needs.{needs}
-use Rattle.r4.proofs.T_saturation.Statement.{statement}
-use Rattle.r4.proofs.T_saturation.Tie as tie
+use Rattle.r4.proofs.T_saturation as own
 
-returns : tie.Need-returns
+returns : own.Tie.Need-returns
 unfolding T-saturationRule plus minus scaled decimal round ofBits
 returns c =
     c .settle .ensures
     ∙ sym (c .before .t-steps .ensures .is)
     ∙ sym (going-on (c .before .before .before .before .check-only .ensures) _ (c .before .before .enum-told .given .1))
 
-returns-2 : tie.Need-returns-2
+returns-2 : own.Tie.Need-returns-2
 unfolding T-saturationRule plus minus scaled decimal round ofBits
 returns-2 c = sym (turned-away (c .before .before .before .check-only .ensures) _ _ (c .before .k .given .1))
 
-pub T-saturation-spec : {M : Type 1} → statement M
+pub T-saturation-spec : {M : Type 1} → own.Statement.statement M
 T-saturation-spec =
-    tie.close (tie.spec (λ c κs. search needs) (λ c. search needs) (λ c κs. search needs) (λ c κs. search needs) (λ c. search needs) returns returns-2)
+    own.Tie.close (own.Tie.spec (λ c κs. search needs) (λ c. search needs) (λ c κs. search needs) (λ c κs. search needs) (λ c. search needs) returns returns-2)

@@ -5,20 +5,19 @@ use Rattle.common.specs.Decimal.{scaled, decimal, plus, minus}
 use Rattle.r4.specs.Saturation.{p-saturationRule}
 use Rattle.common.proofs.Calls.{going-on, turned-away}
 use borrow.Author.Needs.{needs}
-use Rattle.r4.proofs.p_saturation.Statement.{statement}
-use Rattle.r4.proofs.p_saturation.Tie as tie
+use Rattle.r4.proofs.p_saturation as own
 
-returns : tie.Need-returns
+returns : own.Tie.Need-returns
 unfolding p-saturationRule plus minus scaled decimal round ofBits
 returns c =
     c .settle .ensures
     ∙ sym (c .before .p-steps .ensures .is)
     ∙ sym (going-on (c .before .before .before .before .check-only .ensures) _ (c .before .before .enum-told .given .1))
 
-returns-2 : tie.Need-returns-2
+returns-2 : own.Tie.Need-returns-2
 unfolding p-saturationRule plus minus scaled decimal round ofBits
 returns-2 c = sym (turned-away (c .before .before .before .check-only .ensures) _ _ (c .before .k .given .1))
 
-pub p-saturation-spec : {M : Type 1} → statement M
+pub p-saturation-spec : {M : Type 1} → own.Statement.statement M
 p-saturation-spec =
-    tie.close (tie.spec (λ c κs. search needs) (λ c. search needs) (λ c κs. search needs) (λ c κs. search needs) (λ c. search needs) returns returns-2)
+    own.Tie.close (own.Tie.spec (λ c κs. search needs) (λ c. search needs) (λ c κs. search needs) (λ c κs. search needs) (λ c. search needs) returns returns-2)

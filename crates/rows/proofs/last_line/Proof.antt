@@ -6,10 +6,9 @@ use lib.ListN.{length}
 use borrow.Author.Needs.{needs}
 use Rattle.text.specs.Text.{Wrote}
 use Rattle.rows.specs.Lines.{lastLine}
-use Rattle.rows.proofs.last_line.Statement.{statement}
-use Rattle.rows.proofs.last_line.Tie as tie
+use Rattle.rows.proofs.last_line as own
 
-returns : tie.Need-returns
+returns : own.Tie.Need-returns
 returns c =
     let n = c .before .before in
     let a = n .before .before .args in (
@@ -20,6 +19,6 @@ returns c =
       omega (arith, c .put-last .ensures .1),
     )
 
-pub last-line-spec : {M : Type 1} → statement M
+pub last-line-spec : {M : Type 1} → own.Statement.statement M
 last-line-spec =
-    tie.close (tie.spec (λ c κs. search needs) (λ c. search needs) (λ c. search needs) (λ c. search needs) (λ c κs. search needs) returns)
+    own.Tie.close (own.Tie.spec (λ c κs. search needs) (λ c. search needs) (λ c. search needs) (λ c. search needs) (λ c κs. search needs) returns)

@@ -10,12 +10,11 @@ use borrow.Author.Needs.{needs}
 use Rattle.text.specs.Text.{Wrote}
 use Rattle.rows.specs.Lines.{linesOf, blockOf, pageOf, pColumn, tColumn, rowsIn}
 use Rattle.rows.proofs.Laws.{lines-of-bytes}
-use Rattle.rows.proofs.page.Statement.{statement}
-use Rattle.rows.proofs.page.Tie as tie
+use Rattle.rows.proofs.page as own
 
-returns : tie.Need-returns
+returns : own.Tie.Need-returns
 returns c =
-    let w = c .before .before .before .before .before .before in
+    let w = c .before .before .before .before in
     let n = w .before .before .before in
     let a = n .before .before .args in
     let s = a .bytes .now in
@@ -38,5 +37,5 @@ returns c =
       ),
     )
 
-pub page-spec : {M : Type 1} → statement M
-page-spec = tie.close (tie.spec (λ c κs. search needs) (λ c κs. search needs) (λ c κs. search needs) returns)
+pub page-spec : {M : Type 1} → own.Statement.statement M
+page-spec = own.Tie.close (own.Tie.spec (λ c κs. search needs) (λ c κs. search needs) (λ c κs. search needs) returns)

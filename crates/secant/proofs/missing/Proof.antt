@@ -2,12 +2,11 @@
 use borrow.Author.Needs.{needs}
 use Rattle.common.proofs.Formulas.{raw-sub-from}
 use Rattle.secant.specs.Secant.{missingAt}
-use Rattle.secant.proofs.missing.Statement.{statement}
-use Rattle.secant.proofs.missing.Tie as tie
+use Rattle.secant.proofs.missing as own
 
-returns : tie.Need-returns
+returns : own.Tie.Need-returns
 unfolding missingAt
 returns c = raw-sub-from (c .before .args .y) (c .property .ensures)
 
-pub missing-spec : {M : Type 1} → statement M
-missing-spec = tie.close (tie.spec (λ c κs. search needs) returns)
+pub missing-spec : {M : Type 1} → own.Statement.statement M
+missing-spec = own.Tie.close (own.Tie.spec (λ c κs. search needs) returns)

@@ -3,10 +3,9 @@ use mathlib.Core.Path.{sym, ap, _∙_}
 use borrow.Author.Needs.{needs}
 use Rattle.common.proofs.Laws.{check-kept, check-lost}
 use Rattle.secant.specs.Secant.{openedBy, startOf}
-use Rattle.secant.proofs.start.Statement.{statement}
-use Rattle.secant.proofs.start.Tie as tie
+use Rattle.secant.proofs.start as own
 
-returns : tie.Need-returns
+returns : own.Tie.Need-returns
 unfolding startOf
 returns c =
     let k2 = c .before .before in
@@ -20,7 +19,7 @@ returns c =
     )
     (c .opened .ensures ∙ ap openedBy (c .before .ordered .ensures))
 
-returns-2 : tie.Need-returns-2
+returns-2 : own.Tie.Need-returns-2
 unfolding startOf
 returns-2 c =
     let k1 = c .before .before in
@@ -32,13 +31,13 @@ returns-2 c =
       check-lost (m .missing2 .result) (sym (c .before .is-finite2 .ensures) ∙ c .if2 .left),
     )
 
-returns-3 : tie.Need-returns-3
+returns-3 : own.Tie.Need-returns-3
 unfolding startOf
 returns-3 c =
     let m = c .before .before in
     rw (m .before .missing .ensures .is, check-lost (m .before .missing .result) (sym (c .before .is-finite .ensures) ∙ c .if1 .left))
 
-pub start-spec : {M : Type 1} → statement M
+pub start-spec : {M : Type 1} → own.Statement.statement M
 start-spec =
-    tie.close (tie.spec (λ c κs. search needs) (λ c κs. search needs) (λ c κs. search needs) (λ c κs. search needs) (λ c κs. search needs)
+    own.Tie.close (own.Tie.spec (λ c κs. search needs) (λ c κs. search needs) (λ c κs. search needs) (λ c κs. search needs) (λ c κs. search needs)
     (λ c κs. search needs) returns returns-2 returns-3)

@@ -6,14 +6,13 @@ use Rattle.common.proofs.Laws.{check-kept, check-lost}
 use Rattle.secant.specs.Secant.{trialBy}
 use Rattle.secant.specs.declared.Secant.{Secant}
 use Rattle.secant.proofs.Steps.{rawStep, step-is}
-use Rattle.secant.proofs.trial.Statement.{statement}
-use Rattle.secant.proofs.trial.Tie as tie
+use Rattle.secant.proofs.trial as own
 
 -- the place to which the step leads
 next : Secant → Float → Float
 next s e = add binary64 (s .x) (rawStep s e)
 
-returns : tie.Need-returns
+returns : own.Tie.Need-returns
 unfolding trialBy next
 returns c =
     let k2 = c .before .before in
@@ -26,7 +25,7 @@ returns c =
     )
     (rw (c .before .lifted .ensures) at (c .arrive .ensures))
 
-returns-2 : tie.Need-returns-2
+returns-2 : own.Tie.Need-returns-2
 unfolding trialBy next
 returns-2 c =
     let k1 = c .before .before .before in
@@ -37,12 +36,12 @@ returns-2 c =
       check-lost (next (a .s) (a .e)) (sym (c .before .is-finite2 .ensures) ∙ c .if2 .left),
     )
 
-returns-3 : tie.Need-returns-3
+returns-3 : own.Tie.Need-returns-3
 unfolding trialBy
 returns-3 c =
     let a = c .before .before .before .before .args in
     rw (step-is (a .s) (a .e), check-lost (rawStep (a .s) (a .e)) (sym (c .before .is-finite .ensures) ∙ c .if1 .left))
 
-pub trial-spec : {M : Type 1} → statement M
+pub trial-spec : {M : Type 1} → own.Statement.statement M
 trial-spec =
-    tie.close (tie.spec (λ c κs. search needs) (λ c κs. search needs) (λ c κs. search needs) (λ c κs. search needs) returns returns-2 returns-3)
+    own.Tie.close (own.Tie.spec (λ c κs. search needs) (λ c κs. search needs) (λ c κs. search needs) (λ c κs. search needs) returns returns-2 returns-3)

@@ -8,14 +8,13 @@ use Rattle.secant.specs.Secant.{tried, turnOf, paperSecant}
 use Rattle.secant.specs.declared.Secant.{Secant}
 use Rattle.secant.specs.declared.SecantAnswer.{SecantAnswer}
 use Rattle.secant.proofs.Steps.{gap}
-use Rattle.secant.proofs.try_next.Statement.{statement}
-use Rattle.secant.proofs.try_next.Tie as tie
+use Rattle.secant.proofs.try_next as own
 
-returns : tie.Need-returns
+returns : own.Tie.Need-returns
 unfolding turnOf ofBits
 returns c = let k1 = c .before .before in rw (sym (k1 .before .far .ensures) ∙ k1 .if1 .taken, c .if2 .taken)
 
-returns-2 : tie.Need-returns-2
+returns-2 : own.Tie.Need-returns-2
 unfolding turnOf ofBits
 returns-2 c =
     let k3 = c .before in
@@ -29,7 +28,7 @@ returns-2 c =
     )
 
 -- the rule, from what the trial answered
-answered : (c : tie.After-trial) (w : SecantAnswer) → c .trial .result ≡ w
+answered : (c : own.Tie.After-trial) (w : SecantAnswer) → c .trial .result ≡ w
     → let a = c .before .before .before .before .before .before .before .before .before .args in turnOf (a .curve) (a .y) (a .s) ≡ then (paperSecant w) (λ s. value (tried s))
 unfolding turnOf ofBits
 answered c w e =
@@ -45,13 +44,7 @@ answered c w e =
     )
     (ap (λ (o : Outcome Secant). then o (λ s. value (tried s))) (sym (c .trial .ensures) ∙ ap paperSecant e))
 
-returns-3 : tie.Need-returns-3
-returns-3 c = sym (answered (c .before .before .before) _ (c .before .next .given .1))
-
-returns-4 : tie.Need-returns-4
-returns-4 c = sym (answered (c .before .before) _ (c .enum-told .given .1))
-
-returns-5 : tie.Need-returns-5
+returns-5 : own.Tie.Need-returns-5
 unfolding turnOf ofBits
 returns-5 c =
     let k2 = c .before .before .before in
@@ -62,11 +55,12 @@ returns-5 c =
       check-lost (gap (k1 .before .before .args .s)) (sym (c .before .is-finite .ensures) ∙ c .if3 .left),
     )
 
-returns-6 : tie.Need-returns-6
+returns-6 : own.Tie.Need-returns-6
 unfolding turnOf
 returns-6 c = rw (sym (c .before .far .ensures) ∙ c .if1 .left)
 
-pub try-next-spec : {M : Type 1} → statement M
+pub try-next-spec : {M : Type 1} → own.Statement.statement M
 try-next-spec =
-    tie.close (tie.spec (λ c κs. search needs) returns (λ c κs. search needs) returns-2 (λ c κs. search needs) (λ c. search needs) (λ c. search needs)
-    returns-3 returns-4 returns-5 returns-6)
+    own.Tie.close (own.Tie.spec (λ c κs. search needs) returns (λ c κs. search needs) returns-2 (λ c κs. search needs) (λ c. search needs)
+    (λ c. search needs) (λ c. sym (answered (c .before .before .before) _ (c .before .next .given .1)))
+    (λ c. sym (answered (c .before .before) _ (c .enum-told .given .1))) returns-5 returns-6)

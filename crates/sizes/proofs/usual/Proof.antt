@@ -1,16 +1,15 @@
 -- `sizes::usual` meets its contract: both ends of the square are tested. Assumes nothing.
 use lib.Ieee.{ofBits}
 use Rattle.sizes.specs.Usual.{usualBase}
-use Rattle.sizes.proofs.usual.Statement.{statement}
-use Rattle.sizes.proofs.usual.Tie as tie
+use Rattle.sizes.proofs.usual as own
 
-returns : tie.Need-returns
+returns : own.Tie.Need-returns
 unfolding usualBase ofBits
 returns c = rw (c .if1 .taken)
 
-returns-2 : tie.Need-returns-2
+returns-2 : own.Tie.Need-returns-2
 unfolding usualBase ofBits
 returns-2 c = rw (c .if1 .left)
 
-pub usual-spec : {M : Type 1} → statement M
-usual-spec = tie.close (tie.spec returns returns-2)
+pub usual-spec : {M : Type 1} → own.Statement.statement M
+usual-spec = own.Tie.close (own.Tie.spec returns returns-2)

@@ -12,47 +12,25 @@ use Rattle.common.specs.Sum.{rawTotal}
 use Rattle.algo.specs.Table.{rowsOf}
 use Rattle.algo.specs.Raw.{rowsFrom, tabledTerm}
 use Rattle.algo.proofs.Loops.{Within, Shortest, shortest, one-more, none-after, back}
-use Rattle.slopes.proofs.slope_rows.Statement.{statement}
-use Rattle.slopes.proofs.slope_rows.Tie as tie
+use Rattle.slopes.proofs.slope_rows as own
 
-abbrev Inv-loop : tie.InvT-loop
+abbrev Inv-loop : own.Tie.InvT-loop
 Inv-loop a b wi wj is js ns n sum₀ k₀ sum k =
     Shortest (length is) (length js) (length ns) n
     × (rawTotal (tabledTerm a b wi wj) zeroF (rowsOf is js ns) ≡ rawTotal (tabledTerm a b wi wj) sum (rowsFrom is js ns k))
 
-abbrev μ-loop : tie.MeasureT-loop
+abbrev μ-loop : own.Tie.MeasureT-loop
 μ-loop a b wi wj is js ns n sum₀ k₀ sum k = n - k
 
-within : (c : tie.In-loop Inv-loop μ-loop) → Within (c .before .before .before .before .before .args .is .now) (c .before .before .before .before .before .args .js .now) (c .before .before .before .before .before .args .ns .now) (c .before .loop .k)
+within : (c : own.Tie.In-loop Inv-loop μ-loop) → Within (c .before .before .before .before .before .args .is .now) (c .before .before .before .before .before .args .js .now) (c .before .before .before .before .before .args .ns .now) (c .before .loop .k)
 within c = let z = c .before .loop .inv .0 in record { i = omega (arith, z .first); j = omega (arith, z .second); n = omega (arith, z .third) }
 
-loop-holds : tie.Need-loop-holds Inv-loop μ-loop
+loop-holds : own.Tie.Need-loop-holds Inv-loop μ-loop
 unfolding ofBits
 loop-holds c = (shortest _ _ _ _ _ (c .before .least .ensures) (c .least2 .ensures), refl)
 
 -- a column's k-th entry has a place in memory
-mul-factor : tie.Need-mul-factor Inv-loop μ-loop
-mul-factor c = let w = within c in omega (arith, w .j)
-
-shared-slice-copy-out-factor : tie.Need-shared-slice-copy-out-factor Inv-loop μ-loop
-shared-slice-copy-out-factor c = within c .j
-
-mul-factor-2 : tie.Need-mul-factor-2 Inv-loop μ-loop
-mul-factor-2 c = let w = within (c .before) in omega (arith, w .i)
-
-shared-slice-copy-out-factor-2 : tie.Need-shared-slice-copy-out-factor-2 Inv-loop μ-loop
-shared-slice-copy-out-factor-2 c = within (c .before) .i
-
-mul-factor-3 : tie.Need-mul-factor-3 Inv-loop μ-loop
-mul-factor-3 c = let w = within (c .before .before) in omega (arith, w .n)
-
-shared-slice-read-factor : tie.Need-shared-slice-read-factor Inv-loop μ-loop
-shared-slice-read-factor c = within (c .before .before .before) .n
-
-add-k : tie.Need-add-k Inv-loop μ-loop
-add-k c = let w = within (c .before .before .before .before .before) in omega (arith, w .n)
-
-loop-again : tie.Need-loop-again Inv-loop μ-loop
+loop-again : own.Tie.Need-loop-again Inv-loop μ-loop
 loop-again c =
     let l = c .before .before .before .before .before in
     let a = l .before .before .before .before .before .args in
@@ -63,7 +41,7 @@ loop-again c =
       rw (q, p) (l .before .loop .inv .1 ∙ one-more (tabledTerm (a .a) (a .b) (a .wi .now) (a .wj .now)) (l .before .loop .sum) (a .is .now) (a .js .now) (a .ns .now) k (within l)),
     )
 
-returns : tie.Need-returns Inv-loop μ-loop
+returns : own.Tie.Need-returns Inv-loop μ-loop
 returns c =
     let l = c .before in
     let a = l .before .before .before .before .args in
@@ -73,8 +51,10 @@ returns c =
           ∙ none-after (tabledTerm (a .a) (a .b) (a .wi .now) (a .wj .now)) (l .loop .sum) (a .is .now) (a .js .now) (a .ns .now) _ (l .loop .inv .0) (l .loop .k) (c .loop-test .left));
     }
 
-pub slope-rows-spec : {M : Type 1} → statement M
+pub slope-rows-spec : {M : Type 1} → own.Statement.statement M
 slope-rows-spec =
-    tie.close (tie.spec Inv-loop μ-loop (λ c κs. search needs) (λ c κs. search needs) loop-holds mul-factor shared-slice-copy-out-factor mul-factor-2
-    shared-slice-copy-out-factor-2 mul-factor-3 shared-slice-read-factor (λ c κs. search needs) (λ c κs. search needs) add-k (λ c. omega arith)
-    loop-again returns)
+    own.Tie.close (own.Tie.spec Inv-loop μ-loop (λ c κs. search needs) (λ c κs. search needs) loop-holds
+    (λ c. let w = within c in omega (arith, w .j)) (λ c. within c .j) (λ c. let w = within (c .before) in omega (arith, w .i))
+    (λ c. within (c .before) .i) (λ c. let w = within (c .before .before) in omega (arith, w .n)) (λ c. within (c .before .before .before) .n)
+    (λ c κs. search needs) (λ c κs. search needs) (λ c. let w = within (c .before .before .before .before .before) in omega (arith, w .n))
+    (λ c. omega arith) loop-again returns)

@@ -2,12 +2,11 @@
 use borrow.Author.Needs.{needs}
 use Rattle.subregion.specs.Letter.{asciiOf}
 use Rattle.common.proofs.Arms.{arm}
-use Rattle.subregion.proofs.ascii.Statement.{statement}
-use Rattle.subregion.proofs.ascii.Tie as tie
+use Rattle.subregion.proofs.ascii as own
 
-pub ascii-spec : {M : Type 1} → statement M
+pub ascii-spec : {M : Type 1} → own.Statement.statement M
 ascii-spec =
-    tie.close (tie.spec (λ c. search needs) (λ c. search needs) (λ c. search needs) (λ c. search needs) (λ c. search needs) (λ c. search needs)
+    own.Tie.close (own.Tie.spec (λ c. search needs) (λ c. search needs) (λ c. search needs) (λ c. search needs) (λ c. search needs) (λ c. search needs)
     (λ c. search needs) (λ c. search needs) (λ c. search needs) (λ c. search needs) (λ c. search needs) (λ c. search needs) (λ c. search needs)
     (λ c. search needs) (λ c. search needs) (λ c. search needs) (λ c. search needs) (λ c. search needs) (λ c. search needs) (λ c. search needs)
     (λ c. search needs) (λ c. search needs) (λ c. search needs) (λ c. search needs) (λ c. search needs) (λ c. search needs)

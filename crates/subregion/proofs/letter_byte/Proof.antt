@@ -3,14 +3,13 @@ use mathlib.Core.Path.{sym, ap, _∙_}
 use Rattle.subregion.specs.Letter.{byteIn, paperLetter}
 use Rattle.subregion.specs.declared.LetterAnswer.{LetterAnswer}
 use borrow.Author.Needs.{needs}
-use Rattle.subregion.proofs.letter_byte.Statement.{statement}
-use Rattle.subregion.proofs.letter_byte.Tie as tie
+use Rattle.subregion.proofs.letter_byte as own
 
-returns : tie.Need-returns
+returns : own.Tie.Need-returns
 returns c = c .ascii .ensures ∙ sym (ap (λ (x : LetterAnswer). byteIn (paperLetter x)) (c .before .before .c .given .1))
 
-returns-2 : tie.Need-returns-2
+returns-2 : own.Tie.Need-returns-2
 returns-2 c = search needs
 
-pub letter-byte-spec : {M : Type 1} → statement M
-letter-byte-spec = tie.close (tie.spec (λ c. search needs) (λ c κs. search needs) (λ c. search needs) returns returns-2)
+pub letter-byte-spec : {M : Type 1} → own.Statement.statement M
+letter-byte-spec = own.Tie.close (own.Tie.spec (λ c. search needs) (λ c κs. search needs) (λ c. search needs) returns returns-2)

@@ -9,8 +9,7 @@ use borrow.Author.Tests.{ltb-true, ltb-false}
 use Rattle.subregion.specs.declared.Letter.the-variants.{A}
 use Rattle.subregion.specs.Letter.{alphabet, ofByte}
 use Rattle.common.proofs.Arms.{arm, NoneOf, none-of, run, beyond}
-use Rattle.subregion.proofs.of_byte.Statement.{statement}
-use Rattle.subregion.proofs.of_byte.Tie as tie
+use Rattle.subregion.proofs.of_byte as own
 
 below : (b : ℕ) → b < 98 → A ≡ ofByte b
 below b h = let e : b - 97 ≡ 0 = omega arith in rw e
@@ -23,9 +22,9 @@ rest : (b : ℕ) (low : Bool) → ltb b 98 ≡ low → NoneOf b (run 25 98) → 
 rest b true h r = below b (ltb-true b 98 h)
 rest b false h r = above b (beyond 25 98 b r (ltb-false b 98 h))
 
-pub of-byte-spec : {M : Type 1} → statement M
+pub of-byte-spec : {M : Type 1} → own.Statement.statement M
 of-byte-spec =
-    tie.close (tie.spec (λ c. search (arm ofByte)) (λ c. search (arm ofByte)) (λ c. search (arm ofByte)) (λ c. search (arm ofByte))
+    own.Tie.close (own.Tie.spec (λ c. search (arm ofByte)) (λ c. search (arm ofByte)) (λ c. search (arm ofByte)) (λ c. search (arm ofByte))
     (λ c. search (arm ofByte)) (λ c. search (arm ofByte)) (λ c. search (arm ofByte)) (λ c. search (arm ofByte)) (λ c. search (arm ofByte))
     (λ c. search (arm ofByte)) (λ c. search (arm ofByte)) (λ c. search (arm ofByte)) (λ c. search (arm ofByte)) (λ c. search (arm ofByte))
     (λ c. search (arm ofByte)) (λ c. search (arm ofByte)) (λ c. search (arm ofByte)) (λ c. search (arm ofByte)) (λ c. search (arm ofByte))

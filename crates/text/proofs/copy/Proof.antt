@@ -7,19 +7,15 @@ use native.Mathlib.Nat.{le-antisymm}
 use lib.ListN.{length, take, getD, set, length-set}
 use lib.Seq.{sets, take-all}
 use Rattle.text.proofs.Laws.{copied-more}
-use Rattle.text.proofs.copy.Statement.{statement}
-use Rattle.text.proofs.copy.Tie as tie
+use Rattle.text.proofs.copy as own
 
-abbrev Inv-loop : tie.InvT-loop
+abbrev Inv-loop : own.Tie.InvT-loop
 Inv-loop out₀ at src i₀ out i = (i ≤ length src) × (length out ≡ length out₀) × (out ≡ sets out₀ at (take i src))
 
-abbrev μ-loop : tie.MeasureT-loop
+abbrev μ-loop : own.Tie.MeasureT-loop
 μ-loop out₀ at src i₀ out i = length src - i
 
-loop-holds : tie.Need-loop-holds Inv-loop μ-loop
-loop-holds c = (omega arith, refl, refl)
-
-loop-again : tie.Need-loop-again Inv-loop μ-loop
+loop-again : own.Tie.Need-loop-again Inv-loop μ-loop
 loop-again c =
     let l = c .before .before in
     let a = l .before .args in (
@@ -29,7 +25,7 @@ loop-again c =
           ∙ copied-more (a .out .now) (a .at) (a .src .now) (l .loop .i) (omega arith),
     )
 
-returns : tie.Need-returns Inv-loop μ-loop
+returns : own.Tie.Need-returns Inv-loop μ-loop
 returns c =
     let l = c .before in
     let a = l .before .args in
@@ -38,7 +34,7 @@ returns c =
       holds = l .loop .inv .2 ∙ ap (λ (xs : List ℕ). sets (a .out .now) (a .at) xs) (take-all (l .loop .i) (a .src .now) (c .loop-test .left));
     }
 
-pub copy-spec : {M : Type 1} → statement M
+pub copy-spec : {M : Type 1} → own.Statement.statement M
 copy-spec =
-    tie.close (tie.spec Inv-loop μ-loop loop-holds (λ c. omega arith) (λ c. omega arith) (λ c. omega arith) (λ c. omega arith) (λ c. omega arith)
-    loop-again (λ c. omega arith) (λ c. c .before .loop .inv .1) returns)
+    own.Tie.close (own.Tie.spec Inv-loop μ-loop (λ c. (omega arith, refl, refl)) (λ c. omega arith) (λ c. omega arith) (λ c. omega arith)
+    (λ c. omega arith) (λ c. omega arith) loop-again (λ c. omega arith) (λ c. c .before .loop .inv .1) returns)

@@ -4,13 +4,12 @@ use lib.Ieee.{ofBits}
 use borrow.Author.Needs.{needs}
 use Rattle.common.specs.Decimal.{decimal, whole, scaled}
 use Rattle.backward.specs.Equation.{formOf}
-use Rattle.backward.proofs.pattern.form.Statement.{statement}
-use Rattle.backward.proofs.pattern.form.Tie as tie
+use Rattle.backward.proofs.pattern.form as own
 
-pub form-spec : {M : Type 1} → statement M
+pub form-spec : {M : Type 1} → own.Statement.statement M
 unfolding ofBits decimal whole scaled
 form-spec =
-    tie.close (tie.spec (λ c. search needs) (λ c. search needs) (λ c. search needs) (λ c. search needs) (λ c. search needs) (λ c. search needs)
+    own.Tie.close (own.Tie.spec (λ c. search needs) (λ c. search needs) (λ c. search needs) (λ c. search needs) (λ c. search needs) (λ c. search needs)
     (λ c. search needs) (λ c. search needs) (λ c. search needs) (λ c. search needs) (λ c. sym (ap formOf (c .enum-told .given .1)))
     (λ c. sym (ap formOf (c .enum-told2 .given .1))) (λ c. sym (ap formOf (c .enum-told3 .given .1))) (λ c. sym (ap formOf (c .enum-told4 .given .1)))
     (λ c. sym (ap formOf (c .enum-told5 .given .1))) (λ c. sym (ap formOf (c .enum-told6 .given .1))) (λ c. sym (ap formOf (c .enum-told7 .given .1)))

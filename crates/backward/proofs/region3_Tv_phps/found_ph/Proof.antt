@@ -1,20 +1,19 @@
 -- `backward::found_ph`: the side's choice, then T and v on it.
 use borrow.Author.Needs.{needs}
 use Rattle.backward.specs.Backward.{tvd-ph}
-use Rattle.backward.proofs.region3_Tv_phps.found_ph.Statement.{statement}
-use Rattle.backward.proofs.region3_Tv_phps.found_ph.Tie as tie
+use Rattle.backward.proofs.region3_Tv_phps.found_ph as own
 
-returns : tie.Need-returns
+returns : own.Tie.Need-returns
 unfolding tvd-ph
 returns c =
     let m = c .before .before .before .before in
     rw (← (m .before .before .side-ph .ensures), m .side .given .1, ← (c .before .before .raw-on .ensures), ← (c .before .raw-on2 .ensures)) (c .found .ensures)
 
-returns-2 : tie.Need-returns-2
+returns-2 : own.Tie.Need-returns-2
 unfolding tvd-ph
 returns-2 c = rw (← (c .before .before .before .side-ph .ensures), c .before .k .given .1)
 
-pub found-ph-spec : {M : Type 1} → statement M
+pub found-ph-spec : {M : Type 1} → own.Statement.statement M
 found-ph-spec =
-    tie.close (tie.spec (λ c κs. search needs) (λ c. search needs) (λ c κs. search needs) (λ c κs. search needs) (λ c κs. search needs)
+    own.Tie.close (own.Tie.spec (λ c κs. search needs) (λ c. search needs) (λ c κs. search needs) (λ c κs. search needs) (λ c κs. search needs)
     (λ c. search needs) returns returns-2)

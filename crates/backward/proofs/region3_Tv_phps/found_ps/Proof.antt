@@ -1,12 +1,11 @@
 -- `backward::found_ps`: T and v on the side of s.
 use borrow.Author.Needs.{needs}
 use Rattle.backward.specs.Backward.{tvd-ps}
-use Rattle.backward.proofs.region3_Tv_phps.found_ps.Statement.{statement}
-use Rattle.backward.proofs.region3_Tv_phps.found_ps.Tie as tie
+use Rattle.backward.proofs.region3_Tv_phps.found_ps as own
 
-returns : tie.Need-returns
+returns : own.Tie.Need-returns
 unfolding tvd-ps
 returns c = rw (← (c .before .before .before .side-s .ensures), ← (c .before .before .raw-on .ensures), ← (c .before .raw-on2 .ensures)) (c .found .ensures)
 
-pub found-ps-spec : {M : Type 1} → statement M
-found-ps-spec = tie.close (tie.spec (λ c κs. search needs) (λ c κs. search needs) (λ c κs. search needs) (λ c κs. search needs) returns)
+pub found-ps-spec : {M : Type 1} → own.Statement.statement M
+found-ps-spec = own.Tie.close (own.Tie.spec (λ c κs. search needs) (λ c κs. search needs) (λ c κs. search needs) (λ c κs. search needs) returns)

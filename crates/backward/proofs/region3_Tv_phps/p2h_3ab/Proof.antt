@@ -5,10 +5,9 @@ use lib.Ieee.{binary64, div, neg, ofBits, round}
 use Rattle.common.specs.Outcome.{orNan}
 use Rattle.common.specs.Decimal.{plus, minus, whole, scaled}
 use Rattle.backward.specs.Backward.{n1, n2, n3, n4, h3ab}
-use Rattle.backward.proofs.region3_Tv_phps.p2h_3ab.Statement.{statement}
-use Rattle.backward.proofs.region3_Tv_phps.p2h_3ab.Tie as tie
+use Rattle.backward.proofs.region3_Tv_phps.p2h_3ab as own
 
-returns : tie.Need-returns
+returns : own.Tie.Need-returns
 unfolding h3ab ofBits neg plus minus whole scaled round
 returns c =
     let π = raw-first (div binary64) (c .args .p) (whole 1) in
@@ -16,5 +15,5 @@ returns c =
     let η = raw-add (raw-value (orNan n1) refl) (raw-mul π (raw-add (raw-value (orNan n2) refl) (raw-mul π inner))) in
     sym (raw-times (whole 1) η .is)
 
-pub p2h-3ab-spec : {M : Type 1} → statement M
-p2h-3ab-spec = tie.close (tie.spec returns)
+pub p2h-3ab-spec : {M : Type 1} → own.Statement.statement M
+p2h-3ab-spec = own.Tie.close (own.Tie.spec returns)

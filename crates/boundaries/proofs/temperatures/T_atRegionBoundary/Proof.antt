@@ -5,20 +5,19 @@ use Rattle.common.specs.Decimal.{scaled, decimal, whole}
 use Rattle.common.proofs.Calls.{going-on, turned-away}
 use Rattle.boundaries.specs.Boundary.{boundaryRule}
 use borrow.Author.Needs.{needs}
-use Rattle.boundaries.proofs.temperatures.T_atRegionBoundary.Statement.{statement}
-use Rattle.boundaries.proofs.temperatures.T_atRegionBoundary.Tie as tie
+use Rattle.boundaries.proofs.temperatures.T_atRegionBoundary as own
 
-returns : tie.Need-returns
+returns : own.Tie.Need-returns
 unfolding boundaryRule scaled decimal whole round ofBits
 returns c =
     c .settle .ensures
     ∙ c .before .raw-boundary .ensures
     ∙ sym (going-on (c .before .before .before .before .check-only .ensures) _ (c .before .before .enum-told .given .1))
 
-returns-2 : tie.Need-returns-2
+returns-2 : own.Tie.Need-returns-2
 unfolding boundaryRule scaled decimal whole round ofBits
 returns-2 c = sym (turned-away (c .before .before .before .check-only .ensures) _ _ (c .before .k .given .1))
 
-pub T-atRegionBoundary-spec : {M : Type 1} → statement M
+pub T-atRegionBoundary-spec : {M : Type 1} → own.Statement.statement M
 T-atRegionBoundary-spec =
-    tie.close (tie.spec (λ c κs. search needs) (λ c. search needs) (λ c κs. search needs) (λ c κs. search needs) (λ c. search needs) returns returns-2)
+    own.Tie.close (own.Tie.spec (λ c κs. search needs) (λ c. search needs) (λ c κs. search needs) (λ c κs. search needs) (λ c. search needs) returns returns-2)

@@ -3,11 +3,10 @@ use mathlib.Core.Path.{ap, _∙_}
 use Rattle.boundaries.specs.Boundary.{Row}
 use Rattle.boundaries.specs.Raw.{bareSum}
 use borrow.Author.Needs.{needs}
-use Rattle.boundaries.proofs.temperatures.bare_tabled.Statement.{statement}
-use Rattle.boundaries.proofs.temperatures.bare_tabled.Tie as tie
+use Rattle.boundaries.proofs.temperatures.bare_tabled as own
 
-returns : tie.Need-returns
+returns : own.Tie.Need-returns
 returns c = c .walk .ensures ∙ ap (λ (r : Row). bareSum r (c .before .before .args .x)) (c .before .row-at .ensures)
 
-pub bare-tabled-spec : {M : Type 1} → statement M
-bare-tabled-spec = tie.close (tie.spec (λ c κs. search needs) (λ c κs. search needs) returns)
+pub bare-tabled-spec : {M : Type 1} → own.Statement.statement M
+bare-tabled-spec = own.Tie.close (own.Tie.spec (λ c κs. search needs) (λ c κs. search needs) returns)

@@ -2,9 +2,8 @@
 use mathlib.Core.Path.{refl}
 use lib.Ieee.{ofBits, round}
 use Rattle.common.specs.Decimal.{scaled, decimal}
-use Rattle.boundaries.proofs.temperatures.straight.Statement.{statement}
-use Rattle.boundaries.proofs.temperatures.straight.Tie as tie
+use Rattle.boundaries.proofs.temperatures.straight as own
 
-pub straight-spec : {M : Type 1} → statement M
+pub straight-spec : {M : Type 1} → own.Statement.statement M
 unfolding decimal scaled round ofBits
-straight-spec = tie.close (tie.spec (λ c. refl))
+straight-spec = own.Tie.close (own.Tie.spec (λ c. refl))

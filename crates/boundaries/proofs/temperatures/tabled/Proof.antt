@@ -6,14 +6,13 @@ use Rattle.boundaries.specs.Boundary.{Row, rowAt}
 use Rattle.boundaries.specs.Raw.{argumentIn, rawArgument, rawSum}
 use Rattle.boundaries.proofs.TableSums.{usual-sum, table-few}
 use borrow.Author.Needs.{needs}
-use Rattle.boundaries.proofs.temperatures.tabled.Statement.{statement}
-use Rattle.boundaries.proofs.temperatures.tabled.Tie as tie
+use Rattle.boundaries.proofs.temperatures.tabled as own
 
 -- what the row's sum is in
-x-is : (c : tie.After-argument) → let a = c .before .before .args in c .argument .result ≡ rawArgument (argumentIn (rowAt (a .k))) (a .p .0)
+x-is : (c : own.Tie.After-argument) → let a = c .before .before .args in c .argument .result ≡ rawArgument (argumentIn (rowAt (a .k))) (a .p .0)
 x-is c = c .argument .ensures ∙ ap (λ (r : Row). rawArgument (argumentIn r) (c .before .before .args .p .0)) (c .before .row-at .ensures)
 
-returns : tie.Need-returns
+returns : own.Tie.Need-returns
 returns c =
     let d = c .before .before .before in
     let k = d .before .before .args .k in
@@ -21,10 +20,10 @@ returns c =
     let u : usualBase x ≡ true = sym (c .before .before .usual .ensures) ∙ c .before .if1 .taken in
     c .bare-tabled .ensures ∙ usual-sum (rowAt k) x u (table-few k) ∙ ap (rawSum (rowAt k)) (x-is d)
 
-returns-2 : tie.Need-returns-2
+returns-2 : own.Tie.Need-returns-2
 returns-2 c = c .ruled-tabled .ensures ∙ ap (rawSum (rowAt (c .before .before .before .before .before .args .k))) (x-is (c .before .before .before))
 
-pub tabled-spec : {M : Type 1} → statement M
+pub tabled-spec : {M : Type 1} → own.Statement.statement M
 tabled-spec =
-    tie.close (tie.spec (λ c κs. search needs) (λ c κs. search needs) (λ c κs. search needs) (λ c κs. search needs) (λ c κs. search needs) returns
+    own.Tie.close (own.Tie.spec (λ c κs. search needs) (λ c κs. search needs) (λ c κs. search needs) (λ c κs. search needs) (λ c κs. search needs) returns
     returns-2)

@@ -1,54 +1,42 @@
 -- `boundary::choice::band_cq_rk` meets its contract: first that no boundary is lost, then c or q below and r or k above, and what lies between.
 -- Assumes nothing.
-use mathlib.Core.Bool.{cond}
-use mathlib.Core.Path.{_≡_}
+use mathlib.Core.Path.{_≡_, sym, _∙_}
+use mathlib.Core.Bool.{Bool}
 use mathlib.Core.List.{[], _∷_}
-use Rattle.common.specs.Outcome.{refused, finite}
+use Rattle.common.specs.Outcome.{finite}
 use Rattle.common.specs.Sum.{every}
-use Rattle.choosers.specs.Choosers.{around}
-use Rattle.boundary.specs.Choice.{cq-rkRule, nearRule}
-use Rattle.choosers.specs.declared.letter_by.Near.the-variants.{Found, Inside}
-use Rattle.choosers.proofs.Tests.{orInside, around-or}
-use Rattle.boundaries.specs.Raw.{Bare}
-use Rattle.boundaries.proofs.TableSums.{in-p}
-use Rattle.boundary.proofs.Bands.{next}
+use Rattle.choosers.proofs.Tests.{around-or}
+use Rattle.bands.proofs.Lost.{none-lost}
 use borrow.Author.Needs.{needs}
-use Rattle.boundary.proofs.choice.band_cq_rk.Statement.{statement}
-use Rattle.boundary.proofs.choice.band_cq_rk.Tie as tie
+use Rattle.boundary.proofs.choice.band_cq_rk as own
 
--- the letter round the critical point, if none of the boundaries is lost
-whole : (c : tie.After-all-finite) →
-    let tcd = c .before .before .before .before .before .bare-tabled .result in
-    let tqu = c .before .before .before .before .bare-tabled2 .result in
-    let trx = c .before .before .before .bare-tabled3 .result in
-    let tjk = c .before .before .bare-tabled4 .result in
-    let p = c .before .before .before .before .before .before .args .p .0 in
-    let t = c .before .before .before .before .before .before .args .t .0 in
-    Bare p → cq-rkRule p t ≡ cond (every finite (tcd ∷ tqu ∷ trx ∷ tjk ∷ [])) (orInside (around tcd tqu trx tjk t Found Inside) (nearRule p t)) (refused 5)
-unfolding cq-rkRule every
-whole c bare =
-    let d = c .before .before in
-    next (d .before .before .before .bare-tabled .result) _ _ _ (in-p 1 _ _ bare tt (d .before .before .before .bare-tabled .ensures))
-    (next (d .before .before .bare-tabled2 .result) _ _ _ (in-p 7 _ _ bare tt (d .before .before .bare-tabled2 .ensures))
-    (next (d .before .bare-tabled3 .result) _ _ _ (in-p 8 _ _ bare tt (d .before .bare-tabled3 .ensures))
-    (next (d .bare-tabled4 .result) _ _ _ (in-p 4 _ _ bare tt (d .bare-tabled4 .ensures)) (around-or _ _ _ _ _ _))))
+-- what the test says of the boundaries
+tested : (c : own.Tie.After-is-finite) (x : Bool) → c .is-finite .result ≡ x →
+    let d = c .before in
+    every finite (d .before .before .before .bare-tabled .result ∷ d .before .before .bare-tabled2 .result ∷ d .before .bare-tabled3 .result ∷ d .bare-tabled4 .result ∷ []) ≡ x
+tested c x h = sym (none-lost _ _) ∙ sym (c .is-finite .ensures) ∙ h
 
-returns : tie.Need-returns
-returns c bare =
+returns : own.Tie.Need-returns
+returns c =
     let n = c .before .before .before in
-    let d = n .before .before in
-    rw (whole d bare, ← d .all-finite .ensures, n .before .if1 .taken, ← n .round-critical .ensures, c .before .l .given .1)
+    let f = n .before .before in
+    let d = f .before in
+    rw (← d .before .before .before .bare-tabled .ensures, ← d .before .before .bare-tabled2 .ensures, ← d .before .bare-tabled3 .ensures, ← d .bare-tabled4 .ensures, tested f _ (n .before .if1 .taken), around-or, ← n .round-critical .ensures, c .before .l .given .1)
 
-returns-2 : tie.Need-returns-2
-returns-2 c bare =
+returns-2 : own.Tie.Need-returns-2
+returns-2 c =
     let n = c .before .before .before in
-    let d = n .before .before in
-    rw (whole d bare, ← d .all-finite .ensures, n .before .if1 .taken, ← n .round-critical .ensures, c .before .enum-told .given .1) (c .band-near .ensures bare)
+    let f = n .before .before in
+    let d = f .before in
+    rw (← d .before .before .before .bare-tabled .ensures, ← d .before .before .bare-tabled2 .ensures, ← d .before .bare-tabled3 .ensures, ← d .bare-tabled4 .ensures, tested f _ (n .before .if1 .taken), around-or, ← n .round-critical .ensures, c .before .enum-told .given .1) (c .band-near .ensures)
 
-returns-3 : tie.Need-returns-3
-returns-3 c bare = rw (whole (c .before) bare, ← c .before .all-finite .ensures, c .if1 .left)
+returns-3 : own.Tie.Need-returns-3
+returns-3 c =
+    let f = c .before in
+    let d = f .before in
+    rw (← d .before .before .before .bare-tabled .ensures, ← d .before .before .bare-tabled2 .ensures, ← d .before .bare-tabled3 .ensures, ← d .bare-tabled4 .ensures, tested f _ (c .if1 .left))
 
-pub band-cq-rk-spec : {M : Type 1} → statement M
+pub band-cq-rk-spec : {M : Type 1} → own.Statement.statement M
 band-cq-rk-spec =
-    tie.close (tie.spec (λ c κs. search needs) (λ c κs. search needs) (λ c κs. search needs) (λ c κs. search needs) (λ c. search needs)
-    (λ c κs. search needs) (λ c κs. search needs) (λ c. search needs) returns (λ c. search needs) (λ c κs. search needs) returns-2 returns-3)
+    own.Tie.close (own.Tie.spec (λ c κs. search needs) (λ c κs. search needs) (λ c κs. search needs) (λ c κs. search needs) (λ c κs. search needs)
+    (λ c κs. search needs) (λ c. search needs) returns (λ c. search needs) (λ c κs. search needs) returns-2 returns-3)

@@ -3,15 +3,14 @@ use mathlib.Core.Path.{refl, sym, _∙_}
 use lib.ListN.{take}
 use Rattle.by_number.specs.Property.{properties, later}
 use Rattle.by_number.proofs.Numbers.{numbered, beyond, arm, raw-arm, arm-cp, arm-w}
-use Rattle.by_number.proofs.property.Td_thermal_reg3.Statement.{statement}
-use Rattle.by_number.proofs.property.Td_thermal_reg3.Tie as tie
+use Rattle.by_number.proofs.property.Td_thermal_reg3 as own
 
-returns : tie.Need-returns
+returns : own.Tie.Need-returns
 returns c = let k = c .before .before in arm _ _ (numbered properties (k .before .fits .o-id) (k .match .keys1) _ _) (c .answered .ensures) (c .before .state-p .ensures)
 
-pub Td-thermal-reg3-spec : {M : Type 1} → statement M
+pub Td-thermal-reg3-spec : {M : Type 1} → own.Statement.statement M
 Td-thermal-reg3-spec =
-    tie.close (tie.spec (λ c κs. tt) (λ c κs. tt) (λ c κs. tt) (λ c κs. tt) (λ c κs. tt) (λ c κs. tt) (λ c κs. tt) (λ c κs. tt) (λ c κs. tt)
+    own.Tie.close (own.Tie.spec (λ c κs. tt) (λ c κs. tt) (λ c κs. tt) (λ c κs. tt) (λ c κs. tt) (λ c κs. tt) (λ c κs. tt) (λ c κs. tt) (λ c κs. tt)
     (λ c κs. tt) (λ c κs. tt) (λ c κs. tt) (λ c κs. tt) (λ c κs. tt) (λ c κs. tt) (λ c κs. tt) (λ c κs. tt) returns
     (λ c. let k = c .before .before in raw-arm _ _ (numbered properties (k .before .fits .o-id) (k .match .keys2) _ _) (c .settled .ensures) (c .before .raw-v .ensures))
     (λ c. let k = c .before .before in raw-arm _ _ (numbered properties (k .before .fits .o-id) (k .match .keys3) _ _) (c .settled2 .ensures) (c .before .raw-h .ensures))

@@ -2,11 +2,9 @@
 use mathlib.Core.Path.{_∙_, ap}
 use borrow.Author.Needs.{needs}
 use Rattle.by_number.specs.Property.{boxed}
-use Rattle.by_number.proofs.property.settled.Statement.{statement}
-use Rattle.by_number.proofs.property.settled.Tie as tie
+use Rattle.by_number.proofs.property.settled as own
 
-returns : tie.Need-returns
-returns c = c .answered .ensures ∙ ap (boxed _ _) (c .before .settle .ensures)
-
-pub settled-spec : {M : Type 1} → statement M
-settled-spec = tie.close (tie.spec (λ c κs. search needs) (λ c κs. search needs) returns)
+pub settled-spec : {M : Type 1} → own.Statement.statement M
+settled-spec =
+    own.Tie.close (own.Tie.spec (λ c κs. search needs) (λ c κs. search needs)
+    (λ c. c .answered .ensures ∙ ap (boxed _ _) (c .before .settle .ensures)))

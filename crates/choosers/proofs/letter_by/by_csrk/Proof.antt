@@ -1,9 +1,8 @@
 -- `choosers::letter_by::by_csrk` meets its contract: letter after letter. Assumes nothing.
 use borrow.Author.Needs.{needs}
-use Rattle.choosers.proofs.letter_by.by_csrk.Statement.{statement}
-use Rattle.choosers.proofs.letter_by.by_csrk.Tie as tie
+use Rattle.choosers.proofs.letter_by.by_csrk as own
 
-pub by-csrk-spec : {M : Type 1} → statement M
+pub by-csrk-spec : {M : Type 1} → own.Statement.statement M
 by-csrk-spec =
-    tie.close (tie.spec (λ c κs. search needs) (λ c κs. search needs) (λ c κs. search needs)
+    own.Tie.close (own.Tie.spec (λ c κs. search needs) (λ c κs. search needs) (λ c κs. search needs)
     (λ c. rw (c .upto3 .ensures, c .before .upto2 .ensures, c .before .before .upto .ensures)))

@@ -1,13 +1,12 @@
 -- `choosers::letter_by::by_saturated` meets its contract: on either side of the saturation temperature. Assumes nothing.
 use borrow.Author.Needs.{needs}
-use Rattle.choosers.proofs.letter_by.by_saturated.Statement.{statement}
-use Rattle.choosers.proofs.letter_by.by_saturated.Tie as tie
+use Rattle.choosers.proofs.letter_by.by_saturated as own
 
-returns : tie.Need-returns
+returns : own.Tie.Need-returns
 returns c = rw (c .before .if1 .taken) (c .by-liquid .ensures)
 
-returns-2 : tie.Need-returns-2
+returns-2 : own.Tie.Need-returns-2
 returns-2 c = rw (c .before .if1 .left) (c .by-steam .ensures)
 
-pub by-saturated-spec : {M : Type 1} → statement M
-by-saturated-spec = tie.close (tie.spec (λ c κs. search needs) (λ c κs. search needs) returns returns-2)
+pub by-saturated-spec : {M : Type 1} → own.Statement.statement M
+by-saturated-spec = own.Tie.close (own.Tie.spec (λ c κs. search needs) (λ c κs. search needs) returns returns-2)

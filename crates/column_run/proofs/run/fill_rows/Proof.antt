@@ -6,24 +6,24 @@ use native.Mathlib.Omega.{arith}
 use lib.ListN.{length, getD}
 use lib.Ieee.{nan}
 use borrow.Author.Needs.{needs}
-use Rattle.volume.specs.Volumes.{originRule}
-use Rattle.column_run.specs.declared.Line.{Line}
-use Rattle.column_run.specs.Columns.{rowRule, letterIn, densityIn, refusalIn}
-use Rattle.column_run.specs.TwoTurns.{markIn, stopIn}
-use Rattle.column_run.proofs.TwoTurns.{row-is}
+use Rattle.origin.specs.Origin.{originRule}
+use Rattle.column_row.specs.declared.Line.{Line}
+use Rattle.column_row.specs.Row.{rowRule}
+use Rattle.column_run.specs.Columns.{letterIn, densityIn, refusalIn}
+use Rattle.column_row.specs.TwoTurns.{markIn, stopIn}
+use Rattle.column_row.proofs.TwoTurns.{row-is}
 use Rattle.column_run.proofs.Rows.{Filled, filled-none, filled-more, filled-all, Left, left-all, left-less, rows-long}
-use Rattle.column_run.proofs.run.fill_rows.Statement.{statement}
-use Rattle.column_run.proofs.run.fill_rows.Tie as tie
+use Rattle.column_run.proofs.run.fill_rows as own
 
-abbrev Inv-loop : tie.InvT-loop
+abbrev Inv-loop : own.Tie.InvT-loop
 Inv-loop ps ts letters₀ densities₀ refusals₀ i₀ letters densities refusals i =
     (i ≤ length ps) × Filled letterIn 0 ps ts i letters × Filled densityIn nan ps ts i densities × Filled refusalIn 0 ps ts i refusals
     × Left markIn 0 ps ts i letters × Left stopIn 0 ps ts i refusals
 
-abbrev μ-loop : tie.MeasureT-loop
+abbrev μ-loop : own.Tie.MeasureT-loop
 μ-loop ps ts letters₀ densities₀ refusals₀ i₀ letters densities refusals i = length ps - i
 
-loop-holds : tie.Need-loop-holds Inv-loop μ-loop
+loop-holds : own.Tie.Need-loop-holds Inv-loop μ-loop
 loop-holds c =
     let q = c .before .before .before .before .before .pre in (
       omega arith,
@@ -34,7 +34,7 @@ loop-holds c =
       left-all stopIn 0 _ _ _ (q .0) (q .3),
     )
 
-loop-again : tie.Need-loop-again Inv-loop μ-loop
+loop-again : own.Tie.Need-loop-again Inv-loop μ-loop
 loop-again c =
     let l = c .before .before .before .before .before .before in
     let a = l .before .before .before .before .before .before .args in
@@ -54,13 +54,13 @@ loop-again c =
       left-less stopIn 0 _ _ _ _ _ (v .5),
     )
 
-same-length : tie.Need-same-length Inv-loop μ-loop
+same-length : own.Tie.Need-same-length Inv-loop μ-loop
 same-length c = let s = c .before .before .before .before .before .before .before in let e = rows-long markIn 0 _ _ _ (s .pre .0) (s .pre .2) in omega arith
 
-same-length-3 : tie.Need-same-length-3 Inv-loop μ-loop
+same-length-3 : own.Tie.Need-same-length-3 Inv-loop μ-loop
 same-length-3 c = let s = c .before .before .before .before .before .before .before in let e = rows-long stopIn 0 _ _ _ (s .pre .0) (s .pre .3) in omega arith
 
-returns : tie.Need-returns Inv-loop μ-loop
+returns : own.Tie.Need-returns Inv-loop μ-loop
 returns c =
     let l = c .before in
     let e = l .before .before .before .before .before .before .pre .0 in
@@ -68,8 +68,8 @@ returns c =
     let o = c .loop-test .left in
     (filled-all letterIn 0 _ _ _ _ e o (v .1), (filled-all densityIn nan _ _ _ _ e o (v .2), filled-all refusalIn 0 _ _ _ _ e o (v .3)))
 
-pub fill-rows-spec : {M : Type 1} → statement M
+pub fill-rows-spec : {M : Type 1} → own.Statement.statement M
 fill-rows-spec =
-    tie.close (tie.spec Inv-loop μ-loop loop-holds (λ c. omega arith) (λ c. omega arith) (λ c. omega arith) (λ c. omega arith) (λ c. omega arith)
+    own.Tie.close (own.Tie.spec Inv-loop μ-loop loop-holds (λ c. omega arith) (λ c. omega arith) (λ c. omega arith) (λ c. omega arith) (λ c. omega arith)
     (λ c. omega arith) (λ c κs. search needs) (λ c. omega arith) (λ c. omega arith) (λ c. omega arith) (λ c. omega arith) (λ c. omega arith)
     (λ c. omega arith) loop-again same-length (λ c. omega arith) same-length-3 returns)

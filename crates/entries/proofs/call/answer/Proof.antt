@@ -3,17 +3,16 @@ use mir.Syntax.{w32}
 use mir.ValLaws.{toZ-ofZ}
 use borrow.Author.Needs.{needs}
 use Rattle.entries.specs.Entries.{replyRule}
-use Rattle.entries.proofs.call.answer.Statement.{statement}
-use Rattle.entries.proofs.call.answer.Tie as tie
+use Rattle.entries.proofs.call.answer as own
 
-returns-4 : tie.Need-returns-4
+returns-4 : own.Tie.Need-returns-4
 unfolding replyRule
 returns-4 c = rw (c .before .before .entry3 .given .1) (rw (toZ-ofZ w32 (c .before .before .before .before .args .n) (c .before .before .before .before .fits .n)) at (c .twenties .ensures))
 
-pub answer-spec : {M : Type 1} → statement M
+pub answer-spec : {M : Type 1} → own.Statement.statement M
 unfolding replyRule
 answer-spec =
-    tie.close (tie.spec (λ c. search needs) (λ c κs. search needs) (λ c. search needs) (λ c κs. search needs) (λ c. search needs)
+    own.Tie.close (own.Tie.spec (λ c. search needs) (λ c κs. search needs) (λ c. search needs) (λ c κs. search needs) (λ c. search needs)
     (λ c κs. search needs) (λ c. search needs) (λ c κs. search needs) (λ c. search needs) (λ c κs. search needs)
     (λ c. rw (c .before .enum-told .given .1) (c .refused .ensures))
     (λ c. rw (c .before .before .entry .given .1) (rw (toZ-ofZ w32 (c .before .before .before .before .args .n) (c .before .before .before .before .fits .n)) at (c .ones .ensures)))

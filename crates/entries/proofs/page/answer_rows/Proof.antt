@@ -13,20 +13,19 @@ use Rattle.reply.specs.Bytes.{replyBytes}
 use Rattle.entries.specs.Rows.{replyAt, repliesTo}
 use Rattle.reply.specs.declared.Reply.{Reply}
 use Rattle.reply.proofs.Laws.{reply-length}
-use Rattle.entries.proofs.page.answer_rows.Statement.{statement}
-use Rattle.entries.proofs.page.answer_rows.Tie as tie
+use Rattle.entries.proofs.page.answer_rows as own
 
-abbrev Inv-loop : tie.InvT-loop
+abbrev Inv-loop : own.Tie.InvT-loop
 Inv-loop rows replies₀ n i₀ replies i = (i ≤ n) × (length replies ≡ length replies₀) × (replies ≡ sets replies₀ 0 (repliesTo rows i))
 
-abbrev μ-loop : tie.MeasureT-loop
+abbrev μ-loop : own.Tie.MeasureT-loop
 μ-loop rows replies₀ n i₀ replies i = n - i
 
-loop-holds : tie.Need-loop-holds Inv-loop μ-loop
+loop-holds : own.Tie.Need-loop-holds Inv-loop μ-loop
 unfolding repliesTo joined
 loop-holds c = search needs
 
-loop-again : tie.Need-loop-again Inv-loop μ-loop
+loop-again : own.Tie.Need-loop-again Inv-loop μ-loop
 unfolding repliesTo
 loop-again c =
     let p = c .before .before in
@@ -42,7 +41,7 @@ loop-again c =
           ∙ pieces-more f 88 (λ k. reply-length (replyAt (a .rows .now) (24 * k))) (a .replies .now) (l .loop .replies) 0 i (88 * i) (l .loop .inv .2) (sym (zero-add (88 * i))),
     )
 
-returns : tie.Need-returns Inv-loop μ-loop
+returns : own.Tie.Need-returns Inv-loop μ-loop
 returns c =
     let l = c .before in
     let a = l .before .before .before .before .args in (
@@ -50,7 +49,7 @@ returns c =
       l .loop .inv .2 ∙ ap (λ (n : ℕ). sets (a .replies .now) 0 (repliesTo (a .rows .now) n)) (le-antisymm (l .loop .inv .0) (c .loop-test .left)),
     )
 
-pub answer-rows-spec : {M : Type 1} → statement M
+pub answer-rows-spec : {M : Type 1} → own.Statement.statement M
 answer-rows-spec =
-    tie.close (tie.spec Inv-loop μ-loop (λ c κs. search needs) loop-holds (λ c. search needs) (λ c. search needs) (λ c κs. search needs)
+    own.Tie.close (own.Tie.spec Inv-loop μ-loop (λ c κs. search needs) loop-holds (λ c. search needs) (λ c. search needs) (λ c κs. search needs)
     (λ c κs. search needs) (λ c. search needs) (λ c. search needs) loop-again (λ c. search needs) returns)

@@ -10,14 +10,13 @@ use Rattle.entry_numbers.specs.Numbers.{entryOf}
 use Rattle.entries.specs.Entries.{replyRule}
 use Rattle.entries.specs.Rows.{replyAt}
 use borrow.Author.Needs.{needs}
-use Rattle.entries.proofs.page.reply_at.Statement.{statement}
-use Rattle.entries.proofs.page.reply_at.Tie as tie
+use Rattle.entries.proofs.page.reply_at as own
 
 -- the reply to equal parts of a row
 alike : {e f : Entry} {n m : ℤ} {a c b d : Float} → e ≡ f → n ≡ m → a ≡ c → b ≡ d → replyRule e n a b ≡ replyRule f m c d
 alike p q r s = cc
 
-returns : tie.Need-returns
+returns : own.Tie.Need-returns
 unfolding replyAt
 returns c =
     let i = c .before .before .before .int-at in
@@ -26,7 +25,7 @@ returns c =
     c .answer .ensures
     ∙ alike (e .entry-of .ensures ∙ ap entryOf (e .before .byte-at .ensures)) (z ∙ i .ensures) (c .before .before .float-at .ensures) (c .before .float-at2 .ensures)
 
-pub reply-at-spec : {M : Type 1} → statement M
+pub reply-at-spec : {M : Type 1} → own.Statement.statement M
 reply-at-spec =
-    tie.close (tie.spec (λ c κs. search needs) (λ c κs. search needs) (λ c. search needs) (λ c κs. search needs) (λ c. search needs)
+    own.Tie.close (own.Tie.spec (λ c κs. search needs) (λ c κs. search needs) (λ c. search needs) (λ c κs. search needs) (λ c. search needs)
     (λ c κs. search needs) (λ c. search needs) (λ c κs. search needs) (λ c κs. search needs) returns)

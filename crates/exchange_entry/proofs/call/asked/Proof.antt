@@ -4,16 +4,15 @@ use borrow.Author.Needs.{needs}
 use Rattle.common.specs.Outcome.{Outcome, value}
 use Rattle.record.specs.declared.Record.{Record}
 use Rattle.record.specs.Record.{report}
-use Rattle.exchange_entry.specs.declared.Point.{Point}
+use Rattle.exchange_writer.specs.declared.Point.{Point}
 use Rattle.exchange_entry.specs.Call.{entryRule}
-use Rattle.exchange_entry.proofs.call.asked.Statement.{statement}
-use Rattle.exchange_entry.proofs.call.asked.Tie as tie
+use Rattle.exchange_entry.proofs.call.asked as own
 
-returns : tie.Need-returns
+returns : own.Tie.Need-returns
 returns c =
     let k = c .before .before in
     rw (c .judged .ensures)
     (ap (λ (s : Outcome Unit × Record). (value (k .before .before .args .q .pair), s)) (k .ask .ensures ∙ ap (λ (x : Point). report (entryRule x)) (k .before .point-of .ensures)))
 
-pub asked-spec : {M : Type 1} → statement M
-asked-spec = tie.close (tie.spec (λ c κs. search needs) (λ c κs. search needs) (λ c κs. search needs) returns)
+pub asked-spec : {M : Type 1} → own.Statement.statement M
+asked-spec = own.Tie.close (own.Tie.spec (λ c κs. search needs) (λ c κs. search needs) (λ c κs. search needs) returns)

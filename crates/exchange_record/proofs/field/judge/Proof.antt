@@ -2,16 +2,15 @@
 use borrow.Author.Needs.{needs}
 use borrow.Author.Tests.{le-leb, lt-leb}
 use Rattle.exchange_record.specs.Grammar.{fateOf}
-use Rattle.exchange_record.proofs.field.judge.Statement.{statement}
-use Rattle.exchange_record.proofs.field.judge.Tie as tie
+use Rattle.exchange_record.proofs.field.judge as own
 
-returns : tie.Need-returns
+returns : own.Tie.Need-returns
 unfolding fateOf
 returns c = rw (le-leb _ _ (c .if1 .taken))
 
-returns-2 : tie.Need-returns-2
+returns-2 : own.Tie.Need-returns-2
 unfolding fateOf
 returns-2 c = rw (lt-leb _ _ (c .before .if1 .left)) (c .judge-low .ensures)
 
-pub judge-spec : {M : Type 1} → statement M
-judge-spec = tie.close (tie.spec returns (λ c κs. search needs) returns-2)
+pub judge-spec : {M : Type 1} → own.Statement.statement M
+judge-spec = own.Tie.close (own.Tie.spec returns (λ c κs. search needs) returns-2)

@@ -2,24 +2,22 @@
 use mathlib.Core.Path.{sym, _∙_}
 use borrow.Author.Needs.{needs}
 use borrow.Author.Tests.{le-leb, lt-leb, eq-eqb, ne-eqb, not-true, not-false}
-use Rattle.exchange_record.proofs.field.judge_low.Statement.{statement}
-use Rattle.exchange_record.proofs.field.judge_low.Tie as tie
+use Rattle.exchange_record.proofs.field.judge_low as own
 
-returns : tie.Need-returns
-returns c = rw (sym (c .before .known .ensures) ∙ not-true _ (c .if1 .taken))
-
-returns-2 : tie.Need-returns-2
+returns-2 : own.Tie.Need-returns-2
 returns-2 c = let k = c .before in rw (sym (k .before .known .ensures) ∙ not-false _ (k .if1 .left), ne-eqb _ _ (c .if2 .taken))
 
-returns-3 : tie.Need-returns-3
+returns-3 : own.Tie.Need-returns-3
 returns-3 c =
     let k = c .before .before in
     rw (sym (k .before .known .ensures) ∙ not-false _ (k .if1 .left), eq-eqb _ _ (c .before .if2 .left), le-leb _ _ (c .if3 .taken))
 
-returns-4 : tie.Need-returns-4
+returns-4 : own.Tie.Need-returns-4
 returns-4 c =
     let k = c .before .before in
     rw (sym (k .before .known .ensures) ∙ not-false _ (k .if1 .left), eq-eqb _ _ (c .before .if2 .left), lt-leb _ _ (c .if3 .left))
 
-pub judge-low-spec : {M : Type 1} → statement M
-judge-low-spec = tie.close (tie.spec (λ c κs. search needs) returns returns-2 returns-3 returns-4)
+pub judge-low-spec : {M : Type 1} → own.Statement.statement M
+judge-low-spec =
+    own.Tie.close (own.Tie.spec (λ c κs. search needs) (λ c. rw (sym (c .before .known .ensures) ∙ not-true _ (c .if1 .taken))) returns-2 returns-3
+    returns-4)

@@ -8,10 +8,9 @@ use Rattle.helmholtz.specs.Hfe.{phi-delta, phi-deltatau}
 use Rattle.extended.specs.Ext.{Td2dpdtcv}
 use Rattle.helmholtz.proofs.Steps.{R}
 use Rattle.helmholtz.proofs.Numbers.{tested}
-use Rattle.extended.proofs.region3_Td_ext.raw_dpdtcv.Statement.{statement}
-use Rattle.extended.proofs.region3_Td_ext.raw_dpdtcv.Tie as tie
+use Rattle.extended.proofs.region3_Td_ext.raw_dpdtcv as own
 
-returns : tie.Need-returns
+returns : own.Tie.Need-returns
 unfolding ofBits decimal scaled Td2dpdtcv
 returns c =
     let s = c .before .before .before .before in
@@ -22,6 +21,6 @@ returns c =
     let φδτ = at phi-deltatau δ τ (c .before .before .phi-deltatau-reg3 .ensures .raw) in
     tested (raw-value (decimal 0_001 3) refl *ʳ R *ʳ d *ʳ δ *ʳ (φδ -ʳ τ *ʳ φδτ)) (c .finite-or-nan .ensures)
 
-pub raw-dpdtcv-spec : {M : Type 1} → statement M
+pub raw-dpdtcv-spec : {M : Type 1} → own.Statement.statement M
 raw-dpdtcv-spec =
-    tie.close (tie.spec (λ c κs. search needs) (λ c κs. search needs) (λ c κs. search needs) (λ c κs. search needs) (λ c κs. search needs) returns)
+    own.Tie.close (own.Tie.spec (λ c κs. search needs) (λ c κs. search needs) (λ c κs. search needs) (λ c κs. search needs) (λ c κs. search needs) returns)

@@ -8,10 +8,9 @@ use Rattle.helmholtz.specs.Hfe.{phi-delta, phi-deltadelta}
 use Rattle.extended.specs.Ext.{Td2dvdpct}
 use Rattle.helmholtz.proofs.Steps.{R, ρc}
 use Rattle.helmholtz.proofs.Numbers.{tested}
-use Rattle.extended.proofs.region3_Td_ext.raw_dvdpct.Statement.{statement}
-use Rattle.extended.proofs.region3_Td_ext.raw_dvdpct.Tie as tie
+use Rattle.extended.proofs.region3_Td_ext.raw_dvdpct as own
 
-returns : tie.Need-returns
+returns : own.Tie.Need-returns
 unfolding ofBits decimal whole scaled Td2dvdpct
 returns c =
     let s = c .before .before .before .before .before .before in
@@ -26,7 +25,7 @@ returns c =
     let once = named (c .before .before .before .over .ensures) (raw-minus (raw-value (whole 1000) refl) *ʳ ρc /ʳ d) in
     tested (named (c .before .over3 .ensures) (named (c .before .before .over2 .ensures) (once /ʳ d) /ʳ below)) (c .finite-or-nan .ensures)
 
-pub raw-dvdpct-spec : {M : Type 1} → statement M
+pub raw-dvdpct-spec : {M : Type 1} → own.Statement.statement M
 raw-dvdpct-spec =
-    tie.close (tie.spec (λ c κs. search needs) (λ c κs. search needs) (λ c κs. search needs) (λ c κs. search needs) (λ c κs. search needs)
+    own.Tie.close (own.Tie.spec (λ c κs. search needs) (λ c κs. search needs) (λ c κs. search needs) (λ c κs. search needs) (λ c κs. search needs)
     (λ c κs. search needs) (λ c κs. search needs) (λ c κs. search needs) returns)

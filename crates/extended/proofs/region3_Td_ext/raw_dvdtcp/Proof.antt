@@ -7,10 +7,9 @@ use Rattle.common.specs.Decimal.{whole, scaled}
 use Rattle.helmholtz.specs.Hfe.{phi-delta, phi-deltadelta, phi-deltatau}
 use Rattle.extended.specs.Ext.{Td2dvdtcp}
 use Rattle.helmholtz.proofs.Numbers.{tested}
-use Rattle.extended.proofs.region3_Td_ext.raw_dvdtcp.Statement.{statement}
-use Rattle.extended.proofs.region3_Td_ext.raw_dvdtcp.Tie as tie
+use Rattle.extended.proofs.region3_Td_ext.raw_dvdtcp as own
 
-returns : tie.Need-returns
+returns : own.Tie.Need-returns
 unfolding ofBits whole scaled Td2dvdtcp
 returns c =
     let s = c .before .before .before .before .before .before in
@@ -25,7 +24,7 @@ returns c =
     let once = named (c .before .before .before .over .ensures) (d1 /ʳ d2) in
     tested (named (c .before .over3 .ensures) (named (c .before .before .over2 .ensures) (once /ʳ raw-check (a .t .0)) /ʳ raw-check (a .d .0))) (c .finite-or-nan .ensures)
 
-pub raw-dvdtcp-spec : {M : Type 1} → statement M
+pub raw-dvdtcp-spec : {M : Type 1} → own.Statement.statement M
 raw-dvdtcp-spec =
-    tie.close (tie.spec (λ c κs. search needs) (λ c κs. search needs) (λ c κs. search needs) (λ c κs. search needs) (λ c κs. search needs)
+    own.Tie.close (own.Tie.spec (λ c κs. search needs) (λ c κs. search needs) (λ c κs. search needs) (λ c κs. search needs) (λ c κs. search needs)
     (λ c κs. search needs) (λ c κs. search needs) (λ c κs. search needs) (λ c κs. search needs) returns)

@@ -7,10 +7,9 @@ use Rattle.helmholtz.specs.Hfe.{phi, phi-delta, phi-tau}
 use Rattle.extended.specs.Ext.{Td2e}
 use Rattle.helmholtz.proofs.Steps.{R, Tt}
 use Rattle.helmholtz.proofs.Numbers.{tested}
-use Rattle.extended.proofs.region3_Td_ext.raw_e.Statement.{statement}
-use Rattle.extended.proofs.region3_Td_ext.raw_e.Tie as tie
+use Rattle.extended.proofs.region3_Td_ext.raw_e as own
 
-returns : tie.Need-returns
+returns : own.Tie.Need-returns
 unfolding ofBits decimal scaled Td2e
 returns c =
     let s = c .before .before .before .before .before .before in
@@ -22,7 +21,7 @@ returns c =
     let φτ = at phi-tau δ τ (c .before .before .before .phi-tau-reg3 .ensures .raw) in
     tested (R *ʳ (T *ʳ (φ +ʳ δ *ʳ φδ) +ʳ (T -ʳ Tt) *ʳ τ *ʳ (φτ -ʳ φ))) (c .finite-or-nan .ensures)
 
-pub raw-e-spec : {M : Type 1} → statement M
+pub raw-e-spec : {M : Type 1} → own.Statement.statement M
 raw-e-spec =
-    tie.close (tie.spec (λ c κs. search needs) (λ c κs. search needs) (λ c κs. search needs) (λ c κs. search needs) (λ c κs. search needs)
+    own.Tie.close (own.Tie.spec (λ c κs. search needs) (λ c κs. search needs) (λ c κs. search needs) (λ c κs. search needs) (λ c κs. search needs)
     (λ c κs. search needs) returns)

@@ -7,10 +7,9 @@ use Rattle.helmholtz.specs.Hfe.{phi}
 use Rattle.extended.specs.Ext.{Td2f}
 use Rattle.helmholtz.proofs.Steps.{R}
 use Rattle.helmholtz.proofs.Numbers.{tested}
-use Rattle.extended.proofs.region3_Td_ext.raw_f.Statement.{statement}
-use Rattle.extended.proofs.region3_Td_ext.raw_f.Tie as tie
+use Rattle.extended.proofs.region3_Td_ext.raw_f as own
 
-returns : tie.Need-returns
+returns : own.Tie.Need-returns
 unfolding ofBits decimal scaled Td2f
 returns c =
     let T = raw-check (c .before .before .before .before .before .args .t .0) in
@@ -18,5 +17,5 @@ returns c =
     let δ = c .before .before .before .delta-of .ensures .raw in
     tested (R *ʳ T *ʳ at phi δ τ (c .before .phi-reg3 .ensures .raw)) (c .finite-or-nan .ensures)
 
-pub raw-f-spec : {M : Type 1} → statement M
-raw-f-spec = tie.close (tie.spec (λ c κs. search needs) (λ c κs. search needs) (λ c κs. search needs) (λ c κs. search needs) returns)
+pub raw-f-spec : {M : Type 1} → own.Statement.statement M
+raw-f-spec = own.Tie.close (own.Tie.spec (λ c κs. search needs) (λ c κs. search needs) (λ c κs. search needs) (λ c κs. search needs) returns)

@@ -8,15 +8,14 @@ use Rattle.rules.proofs.Formulas.{raw-exponentialOf}
 use Rattle.extended.specs.Ext.{Td2fi}
 use Rattle.helmholtz.proofs.Steps.{R}
 use Rattle.helmholtz.proofs.Numbers.{tested}
-use Rattle.extended.proofs.region3_Td_ext.raw_fi.Statement.{statement}
-use Rattle.extended.proofs.region3_Td_ext.raw_fi.Tie as tie
+use Rattle.extended.proofs.region3_Td_ext.raw_fi as own
 
-returns : tie.Need-returns
+returns : own.Tie.Need-returns
 unfolding ofBits decimal scaled Td2fi
 returns c =
     let g = c .before .before .before .raw-g .ensures .raw in
     let x = raw-div refl g R in
     tested (named (c .before .raw-exponential .ensures) (raw-exponentialOf (named (c .before .before .over .ensures) (x /ʳ raw-check (c .before .before .before .before .args .t .0))))) (c .finite-or-nan .ensures)
 
-pub raw-fi-spec : {M : Type 1} → statement M
-raw-fi-spec = tie.close (tie.spec (λ c κs. search needs) (λ c κs. search needs) (λ c κs. search needs) (λ c κs. search needs) returns)
+pub raw-fi-spec : {M : Type 1} → own.Statement.statement M
+raw-fi-spec = own.Tie.close (own.Tie.spec (λ c κs. search needs) (λ c κs. search needs) (λ c κs. search needs) (λ c κs. search needs) returns)

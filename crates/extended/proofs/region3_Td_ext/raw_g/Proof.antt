@@ -7,10 +7,9 @@ use Rattle.helmholtz.specs.Hfe.{phi, phi-delta}
 use Rattle.extended.specs.Ext.{Td2g}
 use Rattle.helmholtz.proofs.Steps.{R}
 use Rattle.helmholtz.proofs.Numbers.{tested}
-use Rattle.extended.proofs.region3_Td_ext.raw_g.Statement.{statement}
-use Rattle.extended.proofs.region3_Td_ext.raw_g.Tie as tie
+use Rattle.extended.proofs.region3_Td_ext.raw_g as own
 
-returns : tie.Need-returns
+returns : own.Tie.Need-returns
 unfolding ofBits decimal scaled Td2g
 returns c =
     let s = c .before .before .before .before in
@@ -19,6 +18,6 @@ returns c =
     let δ = s .delta-of .ensures .raw in
     tested (R *ʳ T *ʳ (at phi δ τ (c .before .before .before .phi-reg3 .ensures .raw) +ʳ δ *ʳ at phi-delta δ τ (c .before .before .phi-delta-reg3 .ensures .raw))) (c .finite-or-nan .ensures)
 
-pub raw-g-spec : {M : Type 1} → statement M
+pub raw-g-spec : {M : Type 1} → own.Statement.statement M
 raw-g-spec =
-    tie.close (tie.spec (λ c κs. search needs) (λ c κs. search needs) (λ c κs. search needs) (λ c κs. search needs) (λ c κs. search needs) returns)
+    own.Tie.close (own.Tie.spec (λ c κs. search needs) (λ c κs. search needs) (λ c κs. search needs) (λ c κs. search needs) (λ c κs. search needs) returns)

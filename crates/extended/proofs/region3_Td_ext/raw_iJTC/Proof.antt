@@ -7,10 +7,9 @@ use Rattle.common.specs.Decimal.{whole, scaled}
 use Rattle.properties.proofs.Together.{cp-number}
 use Rattle.extended.specs.Ext.{Td2iJTC}
 use Rattle.helmholtz.proofs.Numbers.{tested}
-use Rattle.extended.proofs.region3_Td_ext.raw_iJTC.Statement.{statement}
-use Rattle.extended.proofs.region3_Td_ext.raw_iJTC.Tie as tie
+use Rattle.extended.proofs.region3_Td_ext.raw_iJTC as own
 
-returns : tie.Need-returns
+returns : own.Tie.Need-returns
 unfolding ofBits whole scaled Td2iJTC
 returns c =
     let s = c .before .before .before in
@@ -18,5 +17,5 @@ returns c =
     let cp = cp-number (a .t .0) (a .d .0) (s .raw-cp-w .ensures .0) .raw in
     tested (raw-div refl (raw-minus cp *ʳ c .before .raw-joule .ensures .raw) (raw-value (whole 1000) refl)) (c .finite-or-nan .ensures)
 
-pub raw-iJTC-spec : {M : Type 1} → statement M
-raw-iJTC-spec = tie.close (tie.spec (λ c κs. search needs) (λ c κs. search needs) (λ c κs. search needs) returns)
+pub raw-iJTC-spec : {M : Type 1} → own.Statement.statement M
+raw-iJTC-spec = own.Tie.close (own.Tie.spec (λ c κs. search needs) (λ c κs. search needs) (λ c κs. search needs) returns)

@@ -8,10 +8,9 @@ use Rattle.helmholtz.specs.Hfe.{phi-delta, phi-deltadelta, phi-tautau, phi-delt
 use Rattle.extended.specs.Ext.{Td2joule}
 use Rattle.helmholtz.proofs.Steps.{R}
 use Rattle.helmholtz.proofs.Numbers.{tested}
-use Rattle.extended.proofs.region3_Td_ext.raw_joule.Statement.{statement}
-use Rattle.extended.proofs.region3_Td_ext.raw_joule.Tie as tie
+use Rattle.extended.proofs.region3_Td_ext.raw_joule as own
 
-returns : tie.Need-returns
+returns : own.Tie.Need-returns
 unfolding ofBits decimal whole scaled Td2joule
 returns c =
     let e = c .before .before .before .before .before in
@@ -32,8 +31,8 @@ returns c =
     let cex = named (c .before .before .before .over3 .ensures) (named (c .before .before .before .before .over2 .ensures) (d1 /ʳ d2) /ʳ T) in
     tested (raw-value (whole 1000) refl *ʳ named (c .before .before .over4 .ensures) (v /ʳ cp) *ʳ (T *ʳ cex -ʳ one)) (c .finite-or-nan .ensures)
 
-pub raw-joule-spec : {M : Type 1} → statement M
+pub raw-joule-spec : {M : Type 1} → own.Statement.statement M
 raw-joule-spec =
-    tie.close (tie.spec (λ c κs. search needs) (λ c κs. search needs) (λ c κs. search needs) (λ c κs. search needs) (λ c κs. search needs)
+    own.Tie.close (own.Tie.spec (λ c κs. search needs) (λ c κs. search needs) (λ c κs. search needs) (λ c κs. search needs) (λ c κs. search needs)
     (λ c κs. search needs) (λ c κs. search needs) (λ c κs. search needs) (λ c κs. search needs) (λ c κs. search needs) (λ c κs. search needs)
     (λ c κs. search needs) returns)

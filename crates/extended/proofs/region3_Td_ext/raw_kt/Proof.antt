@@ -3,12 +3,11 @@ use Rattle.common.proofs.Formulas.{raw-minus, raw-check, _*ʳ_}
 use borrow.Author.Needs.{needs}
 use Rattle.extended.specs.Ext.{Td2kt}
 use Rattle.helmholtz.proofs.Numbers.{tested}
-use Rattle.extended.proofs.region3_Td_ext.raw_kt.Statement.{statement}
-use Rattle.extended.proofs.region3_Td_ext.raw_kt.Tie as tie
+use Rattle.extended.proofs.region3_Td_ext.raw_kt as own
 
-returns : tie.Need-returns
+returns : own.Tie.Need-returns
 unfolding Td2kt
 returns c = tested (raw-minus (raw-check (c .before .before .before .args .d .0)) *ʳ c .before .raw-dvdpct .ensures .raw) (c .finite-or-nan .ensures)
 
-pub raw-kt-spec : {M : Type 1} → statement M
-raw-kt-spec = tie.close (tie.spec (λ c κs. search needs) (λ c κs. search needs) returns)
+pub raw-kt-spec : {M : Type 1} → own.Statement.statement M
+raw-kt-spec = own.Tie.close (own.Tie.spec (λ c κs. search needs) (λ c κs. search needs) returns)

@@ -5,10 +5,9 @@ use borrow.Author.Needs.{needs}
 use Rattle.properties.specs.Td.{statePressure}
 use Rattle.extended.specs.Ext.{Td2alfap}
 use Rattle.extended.proofs.TestedP.{first-p}
-use Rattle.extended.proofs.region3_Td_ext.state_alfap.Statement.{statement}
-use Rattle.extended.proofs.region3_Td_ext.state_alfap.Tie as tie
+use Rattle.extended.proofs.region3_Td_ext.state_alfap as own
 
-returns : tie.Need-returns
+returns : own.Tie.Need-returns
 unfolding statePressure Td2alfap
 returns c =
     let s = c .before .before .before in
@@ -18,7 +17,7 @@ returns c =
     ∙ first-p _ _ (s .before .before .raw-p .ensures .raw)
     (λ fp. named (c .before .over2 .ensures) (named (c .before .before .over .ensures) (ec /ʳ raw-value _ fp) /ʳ kt))
 
-pub state-alfap-spec : {M : Type 1} → statement M
+pub state-alfap-spec : {M : Type 1} → own.Statement.statement M
 state-alfap-spec =
-    tie.close (tie.spec (λ c κs. search needs) (λ c κs. search needs) (λ c κs. search needs) (λ c κs. search needs) (λ c κs. search needs)
+    own.Tie.close (own.Tie.spec (λ c κs. search needs) (λ c κs. search needs) (λ c κs. search needs) (λ c κs. search needs) (λ c κs. search needs)
     (λ c κs. search needs) returns)

@@ -4,10 +4,9 @@ use borrow.Author.Needs.{needs}
 use Rattle.properties.specs.Td.{statePressure}
 use Rattle.extended.specs.Ext.{Td2batap}
 use Rattle.extended.proofs.TestedP.{then-p}
-use Rattle.extended.proofs.region3_Td_ext.state_batap.Statement.{statement}
-use Rattle.extended.proofs.region3_Td_ext.state_batap.Tie as tie
+use Rattle.extended.proofs.region3_Td_ext.state_batap as own
 
-returns : tie.Need-returns
+returns : own.Tie.Need-returns
 unfolding statePressure Td2batap
 returns c =
     let s = c .before .before .before in
@@ -16,6 +15,6 @@ returns c =
     (then-p (c .before .over .result) _ (s .before .raw-kt .ensures .raw) (s .raw-p .ensures .raw)
     (λ fk fp. named (c .before .over .ensures) (d /ʳ (raw-value _ fp *ʳ raw-value _ fk))))
 
-pub state-batap-spec : {M : Type 1} → statement M
+pub state-batap-spec : {M : Type 1} → own.Statement.statement M
 state-batap-spec =
-    tie.close (tie.spec (λ c κs. search needs) (λ c κs. search needs) (λ c κs. search needs) (λ c κs. search needs) (λ c κs. search needs) returns)
+    own.Tie.close (own.Tie.spec (λ c κs. search needs) (λ c κs. search needs) (λ c κs. search needs) (λ c κs. search needs) (λ c κs. search needs) returns)

@@ -4,15 +4,14 @@ use borrow.Author.Needs.{needs}
 use Rattle.properties.specs.Td.{statePressure}
 use Rattle.extended.specs.Ext.{Td2fu}
 use Rattle.extended.proofs.TestedP.{then-p}
-use Rattle.extended.proofs.region3_Td_ext.state_fu.Statement.{statement}
-use Rattle.extended.proofs.region3_Td_ext.state_fu.Tie as tie
+use Rattle.extended.proofs.region3_Td_ext.state_fu as own
 
-returns : tie.Need-returns
+returns : own.Tie.Need-returns
 unfolding statePressure Td2fu
 returns c =
     let s = c .before .before in
     rw (c .with-tested-p .ensures, c .before .lost-or .ensures)
     (then-p _ _ (s .before .raw-fi .ensures .raw) (s .raw-p .ensures .raw) (λ ff fp. raw-value _ fp *ʳ raw-value _ ff))
 
-pub state-fu-spec : {M : Type 1} → statement M
-state-fu-spec = tie.close (tie.spec (λ c κs. search needs) (λ c κs. search needs) (λ c κs. search needs) (λ c κs. search needs) returns)
+pub state-fu-spec : {M : Type 1} → own.Statement.statement M
+state-fu-spec = own.Tie.close (own.Tie.spec (λ c κs. search needs) (λ c κs. search needs) (λ c κs. search needs) (λ c κs. search needs) returns)

@@ -8,10 +8,9 @@ use Rattle.properties.specs.Td.{statePressure}
 use Rattle.properties.proofs.Together.{w-number}
 use Rattle.extended.specs.Ext.{Td2ks}
 use Rattle.extended.proofs.TestedP.{then-p}
-use Rattle.extended.proofs.region3_Td_ext.state_ks.Statement.{statement}
-use Rattle.extended.proofs.region3_Td_ext.state_ks.Tie as tie
+use Rattle.extended.proofs.region3_Td_ext.state_ks as own
 
-returns : tie.Need-returns
+returns : own.Tie.Need-returns
 unfolding ofBits scaled statePressure Td2ks
 returns c =
     let s = c .before .before .before .before in
@@ -22,6 +21,6 @@ returns c =
     (then-p (c .before .over .result) _ w (s .raw-p .ensures .raw)
     (λ fw fp. named (c .before .over .ensures) (raw-value _ refl *ʳ raw-value _ fw *ʳ raw-value _ fw *ʳ d /ʳ raw-value _ fp)))
 
-pub state-ks-spec : {M : Type 1} → statement M
+pub state-ks-spec : {M : Type 1} → own.Statement.statement M
 state-ks-spec =
-    tie.close (tie.spec (λ c κs. search needs) (λ c κs. search needs) (λ c κs. search needs) (λ c κs. search needs) (λ c κs. search needs) returns)
+    own.Tie.close (own.Tie.spec (λ c κs. search needs) (λ c κs. search needs) (λ c κs. search needs) (λ c κs. search needs) (λ c κs. search needs) returns)

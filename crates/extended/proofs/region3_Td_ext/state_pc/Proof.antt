@@ -7,10 +7,9 @@ use Rattle.common.specs.Decimal.{whole, scaled}
 use Rattle.properties.specs.Td.{statePressure}
 use Rattle.extended.specs.Ext.{Td2pc}
 use Rattle.extended.proofs.TestedP.{first-p}
-use Rattle.extended.proofs.region3_Td_ext.state_pc.Statement.{statement}
-use Rattle.extended.proofs.region3_Td_ext.state_pc.Tie as tie
+use Rattle.extended.proofs.region3_Td_ext.state_pc as own
 
-returns : tie.Need-returns
+returns : own.Tie.Need-returns
 unfolding ofBits whole scaled statePressure Td2pc
 returns c =
     let s = c .before .before in
@@ -18,5 +17,5 @@ returns c =
     ∙ first-p _ _ (s .before .raw-p .ensures .raw)
     (λ fp. named (s .over .ensures) (raw-value (whole 1) refl /ʳ raw-value _ fp) *ʳ c .before .raw-dpdtcv .ensures .raw)
 
-pub state-pc-spec : {M : Type 1} → statement M
-state-pc-spec = tie.close (tie.spec (λ c κs. search needs) (λ c κs. search needs) (λ c κs. search needs) (λ c κs. search needs) returns)
+pub state-pc-spec : {M : Type 1} → own.Statement.statement M
+state-pc-spec = own.Tie.close (own.Tie.spec (λ c κs. search needs) (λ c κs. search needs) (λ c κs. search needs) (λ c κs. search needs) returns)

@@ -8,10 +8,9 @@ use Rattle.properties.specs.Td.{statePressure}
 use Rattle.extended.specs.Ext.{Td2z}
 use Rattle.extended.proofs.TestedP.{then-p}
 use Rattle.helmholtz.proofs.Steps.{R}
-use Rattle.extended.proofs.region3_Td_ext.state_z.Statement.{statement}
-use Rattle.extended.proofs.region3_Td_ext.state_z.Tie as tie
+use Rattle.extended.proofs.region3_Td_ext.state_z as own
 
-returns : tie.Need-returns
+returns : own.Tie.Need-returns
 unfolding ofBits decimal whole scaled statePressure Td2z
 returns c =
     let s = c .before .before .before in
@@ -22,6 +21,6 @@ returns c =
     (then-p (c .before .over .result) _ v p
     (λ fv fp. named (c .before .over .ensures) (raw-div refl (raw-value (whole 1000) refl *ʳ raw-value _ fp *ʳ raw-value _ fv) R /ʳ raw-check t)))
 
-pub state-z-spec : {M : Type 1} → statement M
+pub state-z-spec : {M : Type 1} → own.Statement.statement M
 state-z-spec =
-    tie.close (tie.spec (λ c κs. search needs) (λ c κs. search needs) (λ c κs. search needs) (λ c κs. search needs) (λ c κs. search needs) returns)
+    own.Tie.close (own.Tie.spec (λ c κs. search needs) (λ c κs. search needs) (λ c κs. search needs) (λ c κs. search needs) (λ c κs. search needs) returns)

@@ -3,20 +3,19 @@ use mathlib.Core.Path.{sym, ap, _∙_}
 use borrow.Author.Needs.{needs}
 use Rattle.common.specs.Answer.{paper}
 use Rattle.extended.proofs.TestedP.{from-value, from-refused}
-use Rattle.extended.proofs.region3_Td_ext.with_tested_p.Statement.{statement}
-use Rattle.extended.proofs.region3_Td_ext.with_tested_p.Tie as tie
+use Rattle.extended.proofs.region3_Td_ext.with_tested_p as own
 
-returns : tie.Need-returns
+returns : own.Tie.Need-returns
 returns c =
     let s = c .before .before .before in
     let a = s .before .args in
     c .settle .ensures ∙ sym (from-value (a .p) (a .x) (s .settle-p .ensures) _ (ap paper (c .before .enum-told .given .1)))
 
-returns-2 : tie.Need-returns-2
+returns-2 : own.Tie.Need-returns-2
 returns-2 c =
     let s = c .before .before .before in
     let a = s .before .args in
     sym (from-refused (a .p) (a .x) (s .settle-p .ensures) _ (ap paper (c .before .k .given .1)))
 
-pub with-tested-p-spec : {M : Type 1} → statement M
-with-tested-p-spec = tie.close (tie.spec (λ c κs. search needs) (λ c. search needs) (λ c κs. search needs) (λ c. search needs) returns returns-2)
+pub with-tested-p-spec : {M : Type 1} → own.Statement.statement M
+with-tested-p-spec = own.Tie.close (own.Tie.spec (λ c κs. search needs) (λ c. search needs) (λ c κs. search needs) (λ c. search needs) returns returns-2)

@@ -7,10 +7,9 @@ use Rattle.algo.specs.Table.{rowsOf}
 use Rattle.printed.specs.Table30.{table30}
 use Rattle.algo.specs.declared.Share.the-variants.{I, Ii, Ij, Jj}
 use Rattle.helmholtz.proofs.Tables.{share-of}
-use Rattle.helmholtz.proofs.region3_hfe.four.Statement.{statement}
-use Rattle.helmholtz.proofs.region3_hfe.four.Tie as tie
+use Rattle.helmholtz.proofs.region3_hfe.four as own
 
-returns : tie.Need-returns
+returns : own.Tie.Need-returns
 unfolding ofBits rowsOf table30 plus minus scaled
 returns c =
     let f = c .before .before .before in
@@ -25,7 +24,7 @@ returns c =
       share-of refl refl p q Jj (h .3) (c .finished4 .ensures),
     )
 
-pub four-spec : {M : Type 1} → statement M
+pub four-spec : {M : Type 1} → own.Statement.statement M
 four-spec =
-    tie.close (tie.spec (λ c κs. search needs) (λ c κs. search needs) (λ c. search needs) (λ c. search needs) (λ c. search needs)
+    own.Tie.close (own.Tie.spec (λ c κs. search needs) (λ c κs. search needs) (λ c. search needs) (λ c. search needs) (λ c. search needs)
     (λ c κs. search needs) (λ c κs. search needs) (λ c κs. search needs) (λ c κs. search needs) (λ c κs. search needs) returns)

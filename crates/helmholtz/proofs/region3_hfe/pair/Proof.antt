@@ -6,10 +6,9 @@ use Rattle.common.specs.Decimal.{scaled, plus, minus}
 use Rattle.algo.specs.Table.{rowsOf}
 use Rattle.printed.specs.Table30.{table30}
 use Rattle.helmholtz.proofs.Tables.{share-of}
-use Rattle.helmholtz.proofs.region3_hfe.pair.Statement.{statement}
-use Rattle.helmholtz.proofs.region3_hfe.pair.Tie as tie
+use Rattle.helmholtz.proofs.region3_hfe.pair as own
 
-returns : tie.Need-returns
+returns : own.Tie.Need-returns
 unfolding ofBits rowsOf table30 plus minus scaled
 returns c =
     let x = c .before .before in
@@ -21,7 +20,7 @@ returns c =
     let h = x .joint-sums .ensures in
     (share-of refl refl p q (a .s) (h .0) (c .before .finished .ensures), share-of refl refl p q (a .t) (h .1) (c .finished2 .ensures))
 
-pub pair-spec : {M : Type 1} → statement M
+pub pair-spec : {M : Type 1} → own.Statement.statement M
 pair-spec =
-    tie.close (tie.spec (λ c κs. search needs) (λ c κs. search needs) (λ c. search needs) (λ c. search needs) (λ c. search needs)
+    own.Tie.close (own.Tie.spec (λ c κs. search needs) (λ c κs. search needs) (λ c. search needs) (λ c. search needs) (λ c. search needs)
     (λ c κs. search needs) (λ c κs. search needs) (λ c κs. search needs) returns)

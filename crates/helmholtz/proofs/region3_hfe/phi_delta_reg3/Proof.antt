@@ -6,14 +6,13 @@ use Rattle.common.specs.Decimal.{scaled, plus}
 use Rattle.helmholtz.specs.Hfe.{phi-delta}
 use Rattle.helmholtz.proofs.Steps.{n₁}
 use Rattle.helmholtz.proofs.Numbers.{tested}
-use Rattle.helmholtz.proofs.region3_hfe.phi_delta_reg3.Statement.{statement}
-use Rattle.helmholtz.proofs.region3_hfe.phi_delta_reg3.Tie as tie
+use Rattle.helmholtz.proofs.region3_hfe.phi_delta_reg3 as own
 
-returns : tie.Need-returns
+returns : own.Tie.Need-returns
 unfolding ofBits plus scaled phi-delta
 returns c =
     let s = c .before .before .before in
     tested (named (c .before .before .over .ensures) (n₁ /ʳ raw-check (s .args .delta)) +ʳ c .before .sum .ensures .raw) (c .finite-or-nan .ensures)
 
-pub phi-delta-reg3-spec : {M : Type 1} → statement M
-phi-delta-reg3-spec = tie.close (tie.spec (λ c κs. search needs) (λ c κs. search needs) (λ c κs. search needs) returns)
+pub phi-delta-reg3-spec : {M : Type 1} → own.Statement.statement M
+phi-delta-reg3-spec = own.Tie.close (own.Tie.spec (λ c κs. search needs) (λ c κs. search needs) (λ c κs. search needs) returns)

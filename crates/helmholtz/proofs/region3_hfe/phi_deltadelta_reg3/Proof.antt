@@ -6,10 +6,9 @@ use Rattle.common.specs.Decimal.{scaled, plus}
 use Rattle.helmholtz.specs.Hfe.{phi-deltadelta}
 use Rattle.helmholtz.proofs.Steps.{n₁}
 use Rattle.helmholtz.proofs.Numbers.{tested}
-use Rattle.helmholtz.proofs.region3_hfe.phi_deltadelta_reg3.Statement.{statement}
-use Rattle.helmholtz.proofs.region3_hfe.phi_deltadelta_reg3.Tie as tie
+use Rattle.helmholtz.proofs.region3_hfe.phi_deltadelta_reg3 as own
 
-returns : tie.Need-returns
+returns : own.Tie.Need-returns
 unfolding ofBits plus scaled phi-deltadelta
 returns c =
     let e = c .before in
@@ -17,5 +16,5 @@ returns c =
     let once = named (e .before .before .over .ensures) (raw-minus n₁ /ʳ δ) in
     tested (named (e .before .over2 .ensures) (once /ʳ δ) +ʳ e .sum .ensures .raw) (c .finite-or-nan .ensures)
 
-pub phi-deltadelta-reg3-spec : {M : Type 1} → statement M
-phi-deltadelta-reg3-spec = tie.close (tie.spec (λ c κs. search needs) (λ c κs. search needs) (λ c κs. search needs) (λ c κs. search needs) returns)
+pub phi-deltadelta-reg3-spec : {M : Type 1} → own.Statement.statement M
+phi-deltadelta-reg3-spec = own.Tie.close (own.Tie.spec (λ c κs. search needs) (λ c κs. search needs) (λ c κs. search needs) (λ c κs. search needs) returns)

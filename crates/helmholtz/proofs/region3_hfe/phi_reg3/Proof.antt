@@ -5,19 +5,18 @@ use lib.Dec.{T}
 use lib.Ieee.{ofBits}
 use borrow.Author.Needs.{needs}
 use Rattle.common.specs.Decimal.{scaled, plus}
-use Rattle.rules.proofs.Formulas.{raw-logarithmOf}
+use Rattle.inverses.proofs.Formulas.{raw-logarithmOf}
 use Rattle.helmholtz.specs.Hfe.{phi}
 use Rattle.helmholtz.proofs.Steps.{n₁}
 use Rattle.helmholtz.proofs.Numbers.{tested}
-use Rattle.helmholtz.proofs.region3_hfe.phi_reg3.Statement.{statement}
-use Rattle.helmholtz.proofs.region3_hfe.phi_reg3.Tie as tie
+use Rattle.helmholtz.proofs.region3_hfe.phi_reg3 as own
 
-returns : tie.Need-returns
+returns : own.Tie.Need-returns
 unfolding ofBits plus scaled phi
 returns c =
     let s = c .before .before .before in
     let ln = raw-logarithmOf (subst T (sym (s .good .0 .1)) tt) (raw-check (s .args .delta)) in
     tested (n₁ *ʳ named (c .before .before .raw-logarithm .ensures) ln +ʳ c .before .sum .ensures .raw) (c .finite-or-nan .ensures)
 
-pub phi-reg3-spec : {M : Type 1} → statement M
-phi-reg3-spec = tie.close (tie.spec (λ c κs. search needs) (λ c κs. search needs) (λ c κs. search needs) returns)
+pub phi-reg3-spec : {M : Type 1} → own.Statement.statement M
+phi-reg3-spec = own.Tie.close (own.Tie.spec (λ c κs. search needs) (λ c κs. search needs) (λ c κs. search needs) returns)

@@ -5,14 +5,13 @@ use lib.Dec.{T}
 use lib.Ieee.{ofBits}
 use borrow.Author.Needs.{needs}
 use Rattle.common.specs.Decimal.{scaled, plus}
-use Rattle.rules.proofs.Formulas.{raw-logarithmOf}
+use Rattle.inverses.proofs.Formulas.{raw-logarithmOf}
 use Rattle.helmholtz.specs.Hfe.{joint-phi}
 use Rattle.helmholtz.proofs.Steps.{n₁}
 use Rattle.helmholtz.proofs.Numbers.{tested}
-use Rattle.helmholtz.proofs.region3_hfe.polys_0_j_powi_reg3.Statement.{statement}
-use Rattle.helmholtz.proofs.region3_hfe.polys_0_j_powi_reg3.Tie as tie
+use Rattle.helmholtz.proofs.region3_hfe.polys_0_j_powi_reg3 as own
 
-returns : tie.Need-returns
+returns : own.Tie.Need-returns
 unfolding ofBits plus scaled joint-phi
 returns c =
     let s = c .before .before .before in
@@ -21,5 +20,5 @@ returns c =
     let ln = raw-logarithmOf (subst T (sym (a .good .0 .1)) tt) (raw-check (a .args .delta)) in
     (tested (joint .0 .raw +ʳ n₁ *ʳ named (c .before .before .raw-logarithm .ensures) ln) (c .finite-or-nan .ensures), joint .1)
 
-pub polys-0-j-powi-reg3-spec : {M : Type 1} → statement M
-polys-0-j-powi-reg3-spec = tie.close (tie.spec (λ c κs. search needs) (λ c κs. search needs) (λ c κs. search needs) returns)
+pub polys-0-j-powi-reg3-spec : {M : Type 1} → own.Statement.statement M
+polys-0-j-powi-reg3-spec = own.Tie.close (own.Tie.spec (λ c κs. search needs) (λ c κs. search needs) (λ c κs. search needs) returns)

@@ -6,10 +6,9 @@ use Rattle.common.specs.Decimal.{scaled, plus}
 use Rattle.helmholtz.specs.Hfe.{four-delta, four-deltadelta}
 use Rattle.helmholtz.proofs.Steps.{n₁}
 use Rattle.helmholtz.proofs.Numbers.{tested}
-use Rattle.helmholtz.proofs.region3_hfe.polys_i_ii_ij_jj_powi_reg3.Statement.{statement}
-use Rattle.helmholtz.proofs.region3_hfe.polys_i_ii_ij_jj_powi_reg3.Tie as tie
+use Rattle.helmholtz.proofs.region3_hfe.polys_i_ii_ij_jj_powi_reg3 as own
 
-returns : tie.Need-returns
+returns : own.Tie.Need-returns
 unfolding ofBits plus scaled four-delta four-deltadelta
 returns c =
     let e = c .before .before .before in
@@ -23,7 +22,7 @@ returns c =
       joint .3,
     )
 
-pub polys-i-ii-ij-jj-powi-reg3-spec : {M : Type 1} → statement M
+pub polys-i-ii-ij-jj-powi-reg3-spec : {M : Type 1} → own.Statement.statement M
 polys-i-ii-ij-jj-powi-reg3-spec =
-    tie.close (tie.spec (λ c κs. search needs) (λ c κs. search needs) (λ c κs. search needs) (λ c κs. search needs) (λ c κs. search needs)
+    own.Tie.close (own.Tie.spec (λ c κs. search needs) (λ c κs. search needs) (λ c κs. search needs) (λ c κs. search needs) (λ c κs. search needs)
     (λ c κs. search needs) returns)

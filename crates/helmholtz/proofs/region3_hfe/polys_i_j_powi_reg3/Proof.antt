@@ -6,15 +6,14 @@ use Rattle.common.specs.Decimal.{scaled, plus}
 use Rattle.helmholtz.specs.Hfe.{joint-delta}
 use Rattle.helmholtz.proofs.Steps.{n₁}
 use Rattle.helmholtz.proofs.Numbers.{tested}
-use Rattle.helmholtz.proofs.region3_hfe.polys_i_j_powi_reg3.Statement.{statement}
-use Rattle.helmholtz.proofs.region3_hfe.polys_i_j_powi_reg3.Tie as tie
+use Rattle.helmholtz.proofs.region3_hfe.polys_i_j_powi_reg3 as own
 
-returns : tie.Need-returns
+returns : own.Tie.Need-returns
 unfolding ofBits plus scaled joint-delta
 returns c =
     let s = c .before .before .before in
     let joint = s .pair .ensures in
     (tested (joint .0 .raw +ʳ named (c .before .before .over .ensures) (n₁ /ʳ raw-check (s .before .args .delta))) (c .finite-or-nan .ensures), joint .1)
 
-pub polys-i-j-powi-reg3-spec : {M : Type 1} → statement M
-polys-i-j-powi-reg3-spec = tie.close (tie.spec (λ c κs. search needs) (λ c κs. search needs) (λ c κs. search needs) returns)
+pub polys-i-j-powi-reg3-spec : {M : Type 1} → own.Statement.statement M
+polys-i-j-powi-reg3-spec = own.Tie.close (own.Tie.spec (λ c κs. search needs) (λ c κs. search needs) (λ c κs. search needs) returns)

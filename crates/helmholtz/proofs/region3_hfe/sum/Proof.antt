@@ -6,10 +6,9 @@ use Rattle.common.specs.Decimal.{scaled, plus, minus}
 use Rattle.algo.specs.Table.{rowsOf}
 use Rattle.printed.specs.Table30.{table30}
 use Rattle.helmholtz.proofs.Tables.{slope-of}
-use Rattle.helmholtz.proofs.region3_hfe.sum.Statement.{statement}
-use Rattle.helmholtz.proofs.region3_hfe.sum.Tie as tie
+use Rattle.helmholtz.proofs.region3_hfe.sum as own
 
-returns : tie.Need-returns
+returns : own.Tie.Need-returns
 unfolding ofBits rowsOf table30 plus minus scaled
 returns c =
     let x = c .before in
@@ -18,7 +17,7 @@ returns c =
     let a = v .before .before .args in
     slope-of refl refl (v .fill-powers .ensures) (w .fill-powers2 .ensures) (a .a) (a .b) (x .slope-sum .ensures) (c .gated .ensures)
 
-pub sum-spec : {M : Type 1} → statement M
+pub sum-spec : {M : Type 1} → own.Statement.statement M
 sum-spec =
-    tie.close (tie.spec (λ c κs. search needs) (λ c κs. search needs) (λ c. search needs) (λ c. search needs) (λ c. search needs)
+    own.Tie.close (own.Tie.spec (λ c κs. search needs) (λ c κs. search needs) (λ c. search needs) (λ c. search needs) (λ c. search needs)
     (λ c κs. search needs) (λ c κs. search needs) returns)

@@ -8,10 +8,9 @@ use Rattle.algo.specs.Joint.{shareRule}
 use Rattle.polynomial.specs.Columns.{pairOf, pairTable}
 use Rattle.algo.proofs.Settled.{share-settled}
 use Rattle.polynomial.proofs.Lengths.{taken-by, refused-by}
-use Rattle.polynomial.proofs.polynomial.table_pair.Statement.{statement}
-use Rattle.polynomial.proofs.polynomial.table_pair.Tie as tie
+use Rattle.polynomial.proofs.polynomial.table_pair as own
 
-returns : tie.Need-returns
+returns : own.Tie.Need-returns
 unfolding pairTable
 returns c =
     let x = c .before in
@@ -22,11 +21,11 @@ returns c =
     ∙ (rw (p .0, p .1, share-settled (a .a) (a .s) (a .vi) (a .vj) rows, share-settled (a .a) (a .t) (a .vi) (a .vj) rows))
     ∙ sym (taken-by (λ (rs : List Row). pairOf (shareRule (a .a) (a .s) (a .vi) (a .vj) rs) (shareRule (a .a) (a .t) (a .vi) (a .vj) rs)) (now (a .is)) (now (a .js)) (now (a .ns)) (sym (x .before .before .same-lengths .ensures) ∙ x .before .if1 .taken))
 
-returns-2 : tie.Need-returns-2
+returns-2 : own.Tie.Need-returns-2
 unfolding pairTable
 returns-2 c =
     let a = c .before .before .before .args in
     sym (refused-by (λ (rs : List Row). pairOf (shareRule (a .a) (a .s) (a .vi) (a .vj) rs) (shareRule (a .a) (a .t) (a .vi) (a .vj) rs)) (now (a .is)) (now (a .js)) (now (a .ns)) (sym (c .before .same-lengths .ensures) ∙ c .if1 .left))
 
-pub table-pair-spec : {M : Type 1} → statement M
-table-pair-spec = tie.close (tie.spec (λ c κs. search needs) (λ c κs. search needs) (λ c κs. search needs) returns returns-2)
+pub table-pair-spec : {M : Type 1} → own.Statement.statement M
+table-pair-spec = own.Tie.close (own.Tie.spec (λ c κs. search needs) (λ c κs. search needs) (λ c κs. search needs) returns returns-2)

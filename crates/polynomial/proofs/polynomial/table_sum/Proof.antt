@@ -7,10 +7,9 @@ use Rattle.algo.specs.Table.{rowsOf, differentiated, sumRule}
 use Rattle.polynomial.specs.Columns.{tableRule}
 use Rattle.algo.proofs.Settled.{slope-settled}
 use Rattle.polynomial.proofs.Lengths.{taken-by, refused-by}
-use Rattle.polynomial.proofs.polynomial.table_sum.Statement.{statement}
-use Rattle.polynomial.proofs.polynomial.table_sum.Tie as tie
+use Rattle.polynomial.proofs.polynomial.table_sum as own
 
-returns : tie.Need-returns
+returns : own.Tie.Need-returns
 unfolding tableRule
 returns c =
     let x = c .before in
@@ -20,11 +19,11 @@ returns c =
     ∙ slope-settled (a .a) (a .b) (a .vi) (a .vj) (rowsOf (now (a .is)) (now (a .js)) (now (a .ns)))
     ∙ sym (taken-by (sumRule (differentiated (a .a) (a .b)) (a .vi) (a .vj)) (now (a .is)) (now (a .js)) (now (a .ns)) (sym (x .before .before .same-lengths .ensures) ∙ x .before .if1 .taken))
 
-returns-2 : tie.Need-returns-2
+returns-2 : own.Tie.Need-returns-2
 unfolding tableRule
 returns-2 c =
     let a = c .before .before .before .args in
     sym (refused-by (sumRule (differentiated (a .a) (a .b)) (a .vi) (a .vj)) (now (a .is)) (now (a .js)) (now (a .ns)) (sym (c .before .same-lengths .ensures) ∙ c .if1 .left))
 
-pub table-sum-spec : {M : Type 1} → statement M
-table-sum-spec = tie.close (tie.spec (λ c κs. search needs) (λ c κs. search needs) (λ c κs. search needs) returns returns-2)
+pub table-sum-spec : {M : Type 1} → own.Statement.statement M
+table-sum-spec = own.Tie.close (own.Tie.spec (λ c κs. search needs) (λ c κs. search needs) (λ c κs. search needs) returns returns-2)

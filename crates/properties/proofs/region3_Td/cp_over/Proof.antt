@@ -6,10 +6,9 @@ use borrow.Author.Needs.{needs}
 use Rattle.common.specs.Decimal.{decimal, whole, scaled}
 use Rattle.helmholtz.proofs.Steps.{R}
 use Rattle.helmholtz.proofs.Numbers.{tested}
-use Rattle.properties.proofs.region3_Td.cp_over.Statement.{statement}
-use Rattle.properties.proofs.region3_Td.cp_over.Tie as tie
+use Rattle.properties.proofs.region3_Td.cp_over as own
 
-returns : tie.Need-returns
+returns : own.Tie.Need-returns
 unfolding ofBits decimal whole scaled
 returns c =
     let g = c .before .before .before .before .before .before .before .args in
@@ -21,5 +20,5 @@ returns c =
     let b = δ *ʳ (raw-value (whole 2) refl *ʳ φδ +ʳ δ *ʳ raw-check (φ .deltadelta)) in
     tested (R *ʳ (raw-minus τ *ʳ τ *ʳ raw-check (φ .tautau) +ʳ named (c .before .over .ensures) (a *ʳ a /ʳ b))) (c .finite-or-nan .ensures)
 
-pub cp-over-spec : {M : Type 1} → statement M
-cp-over-spec = tie.close (tie.spec (λ c κs. search needs) (λ c κs. search needs) returns)
+pub cp-over-spec : {M : Type 1} → own.Statement.statement M
+cp-over-spec = own.Tie.close (own.Tie.spec (λ c κs. search needs) (λ c κs. search needs) returns)

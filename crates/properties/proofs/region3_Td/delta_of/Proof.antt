@@ -6,12 +6,11 @@ use borrow.Author.Needs.{needs}
 use Rattle.common.specs.Decimal.{whole, scaled}
 use Rattle.helmholtz.proofs.Steps.{ρc}
 use Rattle.helmholtz.proofs.Numbers.{tested}
-use Rattle.properties.proofs.region3_Td.delta_of.Statement.{statement}
-use Rattle.properties.proofs.region3_Td.delta_of.Tie as tie
+use Rattle.properties.proofs.region3_Td.delta_of as own
 
-returns : tie.Need-returns
+returns : own.Tie.Need-returns
 unfolding ofBits whole scaled
 returns c = tested (raw-div refl (raw-check (c .before .before .args .d .0)) ρc) (c .finite-or-nan .ensures)
 
-pub delta-of-spec : {M : Type 1} → statement M
-delta-of-spec = tie.close (tie.spec (λ c κs. search needs) returns)
+pub delta-of-spec : {M : Type 1} → own.Statement.statement M
+delta-of-spec = own.Tie.close (own.Tie.spec (λ c κs. search needs) returns)

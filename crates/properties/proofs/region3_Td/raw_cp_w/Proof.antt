@@ -1,10 +1,9 @@
 -- `properties::region3_Td::raw_cp_w`: each half over the four sums that were worked (Worked), as the joint definition has it.
 use borrow.Author.Needs.{needs}
 use Rattle.properties.proofs.Worked.{cp-worked, w-worked}
-use Rattle.properties.proofs.region3_Td.raw_cp_w.Statement.{statement}
-use Rattle.properties.proofs.region3_Td.raw_cp_w.Tie as tie
+use Rattle.properties.proofs.region3_Td.raw_cp_w as own
 
-returns : tie.Need-returns
+returns : own.Tie.Need-returns
 returns c =
     let p = c .before .before in
     let a = p .before .before .before .args in
@@ -15,6 +14,6 @@ returns c =
       w-worked (a .t .0) (a .d .0) δ τ (four .0 .raw) (four .1 .raw) (four .2 .raw) (four .3 .raw) (c .w-over .ensures),
     )
 
-pub raw-cp-w-spec : {M : Type 1} → statement M
+pub raw-cp-w-spec : {M : Type 1} → own.Statement.statement M
 raw-cp-w-spec =
-    tie.close (tie.spec (λ c κs. search needs) (λ c κs. search needs) (λ c κs. search needs) (λ c κs. search needs) (λ c κs. search needs) returns)
+    own.Tie.close (own.Tie.spec (λ c κs. search needs) (λ c κs. search needs) (λ c κs. search needs) (λ c κs. search needs) (λ c κs. search needs) returns)

@@ -7,10 +7,9 @@ use Rattle.helmholtz.specs.Hfe.{joint-tau, joint-delta}
 use Rattle.properties.specs.Td.{Td2h}
 use Rattle.helmholtz.proofs.Steps.{R}
 use Rattle.helmholtz.proofs.Numbers.{tested}
-use Rattle.properties.proofs.region3_Td.raw_h.Statement.{statement}
-use Rattle.properties.proofs.region3_Td.raw_h.Tie as tie
+use Rattle.properties.proofs.region3_Td.raw_h as own
 
-returns : tie.Need-returns
+returns : own.Tie.Need-returns
 unfolding ofBits decimal scaled Td2h
 returns c =
     let s = c .before .before .before .before in
@@ -20,5 +19,5 @@ returns c =
     let joint = s .polys-i-j-powi-reg3 .ensures in
     tested (R *ʳ T *ʳ (τ *ʳ at joint-tau δ τ (joint .1 .raw) +ʳ δ *ʳ at joint-delta δ τ (joint .0 .raw))) (c .finite-or-nan .ensures)
 
-pub raw-h-spec : {M : Type 1} → statement M
-raw-h-spec = tie.close (tie.spec (λ c κs. search needs) (λ c κs. search needs) (λ c κs. search needs) (λ c κs. search needs) returns)
+pub raw-h-spec : {M : Type 1} → own.Statement.statement M
+raw-h-spec = own.Tie.close (own.Tie.spec (λ c κs. search needs) (λ c κs. search needs) (λ c κs. search needs) (λ c κs. search needs) returns)

@@ -8,10 +8,9 @@ use Rattle.helmholtz.specs.Hfe.{phi-delta}
 use Rattle.properties.specs.Td.{Td2p}
 use Rattle.helmholtz.proofs.Steps.{R}
 use Rattle.helmholtz.proofs.Numbers.{tested}
-use Rattle.properties.proofs.region3_Td.raw_p.Statement.{statement}
-use Rattle.properties.proofs.region3_Td.raw_p.Tie as tie
+use Rattle.properties.proofs.region3_Td.raw_p as own
 
-returns : tie.Need-returns
+returns : own.Tie.Need-returns
 unfolding ofBits decimal scaled Td2p
 returns c =
     let a = c .before .before .before .before .before .before .args in
@@ -22,5 +21,5 @@ returns c =
     let φδ = at phi-delta δ τ (c .before .phi-delta-reg3 .ensures .raw) in
     tested (raw-value (decimal 0_001 3) refl *ʳ d *ʳ R *ʳ T *ʳ δ *ʳ φδ) (c .finite-or-nan .ensures)
 
-pub raw-p-spec : {M : Type 1} → statement M
-raw-p-spec = tie.close (tie.spec (λ c κs. search needs) (λ c κs. search needs) (λ c κs. search needs) (λ c κs. search needs) returns)
+pub raw-p-spec : {M : Type 1} → own.Statement.statement M
+raw-p-spec = own.Tie.close (own.Tie.spec (λ c κs. search needs) (λ c κs. search needs) (λ c κs. search needs) (λ c κs. search needs) returns)

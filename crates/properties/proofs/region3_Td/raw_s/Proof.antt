@@ -7,10 +7,9 @@ use Rattle.helmholtz.specs.Hfe.{joint-phi, joint-tau}
 use Rattle.properties.specs.Td.{Td2s}
 use Rattle.helmholtz.proofs.Steps.{R}
 use Rattle.helmholtz.proofs.Numbers.{tested}
-use Rattle.properties.proofs.region3_Td.raw_s.Statement.{statement}
-use Rattle.properties.proofs.region3_Td.raw_s.Tie as tie
+use Rattle.properties.proofs.region3_Td.raw_s as own
 
-returns : tie.Need-returns
+returns : own.Tie.Need-returns
 unfolding ofBits decimal scaled Td2s
 returns c =
     let s = c .before .before .before in
@@ -19,5 +18,5 @@ returns c =
     let joint = s .polys-0-j-powi-reg3 .ensures in
     tested (R *ʳ (τ *ʳ at joint-tau δ τ (joint .1 .raw) -ʳ at joint-phi δ τ (joint .0 .raw))) (c .finite-or-nan .ensures)
 
-pub raw-s-spec : {M : Type 1} → statement M
-raw-s-spec = tie.close (tie.spec (λ c κs. search needs) (λ c κs. search needs) (λ c κs. search needs) (λ c κs. search needs) returns)
+pub raw-s-spec : {M : Type 1} → own.Statement.statement M
+raw-s-spec = own.Tie.close (own.Tie.spec (λ c κs. search needs) (λ c κs. search needs) (λ c κs. search needs) (λ c κs. search needs) returns)

@@ -7,10 +7,9 @@ use Rattle.helmholtz.specs.Hfe.{phi-tau}
 use Rattle.properties.specs.Td.{Td2u}
 use Rattle.helmholtz.proofs.Steps.{R}
 use Rattle.helmholtz.proofs.Numbers.{tested}
-use Rattle.properties.proofs.region3_Td.raw_u.Statement.{statement}
-use Rattle.properties.proofs.region3_Td.raw_u.Tie as tie
+use Rattle.properties.proofs.region3_Td.raw_u as own
 
-returns : tie.Need-returns
+returns : own.Tie.Need-returns
 unfolding ofBits decimal scaled Td2u
 returns c =
     let T = raw-check (c .before .before .before .before .before .args .t .0) in
@@ -18,5 +17,5 @@ returns c =
     let δ = c .before .before .before .delta-of .ensures .raw in
     tested (R *ʳ T *ʳ τ *ʳ at phi-tau δ τ (c .before .phi-tau-reg3 .ensures .raw)) (c .finite-or-nan .ensures)
 
-pub raw-u-spec : {M : Type 1} → statement M
-raw-u-spec = tie.close (tie.spec (λ c κs. search needs) (λ c κs. search needs) (λ c κs. search needs) (λ c κs. search needs) returns)
+pub raw-u-spec : {M : Type 1} → own.Statement.statement M
+raw-u-spec = own.Tie.close (own.Tie.spec (λ c κs. search needs) (λ c κs. search needs) (λ c κs. search needs) (λ c κs. search needs) returns)

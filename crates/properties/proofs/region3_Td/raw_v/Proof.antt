@@ -6,12 +6,11 @@ use borrow.Author.Needs.{needs}
 use Rattle.common.specs.Decimal.{whole, scaled}
 use Rattle.properties.specs.Td.{Td2v}
 use Rattle.helmholtz.proofs.Numbers.{tested}
-use Rattle.properties.proofs.region3_Td.raw_v.Statement.{statement}
-use Rattle.properties.proofs.region3_Td.raw_v.Tie as tie
+use Rattle.properties.proofs.region3_Td.raw_v as own
 
-returns : tie.Need-returns
+returns : own.Tie.Need-returns
 unfolding ofBits whole scaled Td2v
 returns c = tested (named (c .before .over .ensures) (raw-value (whole 1) refl /ʳ raw-check (c .before .before .args .d .0))) (c .finite-or-nan .ensures)
 
-pub raw-v-spec : {M : Type 1} → statement M
-raw-v-spec = tie.close (tie.spec (λ c κs. search needs) (λ c κs. search needs) returns)
+pub raw-v-spec : {M : Type 1} → own.Statement.statement M
+raw-v-spec = own.Tie.close (own.Tie.spec (λ c κs. search needs) (λ c κs. search needs) returns)

@@ -1,12 +1,13 @@
 -- `properties::region3_Td::state_p`: the test of a p, at the p of table 31.
+use mathlib.Core.Path.{sym, ap, _∙_}
 use borrow.Author.Needs.{needs}
+use Rattle.record.specs.State.{pressureOf}
 use Rattle.properties.specs.Td.{statePressure}
-use Rattle.properties.proofs.region3_Td.state_p.Statement.{statement}
-use Rattle.properties.proofs.region3_Td.state_p.Tie as tie
+use Rattle.properties.proofs.region3_Td.state_p as own
 
-returns : tie.Need-returns
+returns : own.Tie.Need-returns
 unfolding statePressure
-returns c = cc
+returns c = c .settle-p .ensures ∙ ap pressureOf (sym (c .before .raw-p .ensures .raw .is))
 
-pub state-p-spec : {M : Type 1} → statement M
-state-p-spec = tie.close (tie.spec (λ c κs. search needs) (λ c κs. search needs) returns)
+pub state-p-spec : {M : Type 1} → own.Statement.statement M
+state-p-spec = own.Tie.close (own.Tie.spec (λ c κs. search needs) (λ c κs. search needs) returns)

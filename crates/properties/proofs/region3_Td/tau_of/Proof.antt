@@ -5,12 +5,11 @@ use borrow.Author.Needs.{needs}
 use Rattle.common.specs.Decimal.{decimal, scaled}
 use Rattle.helmholtz.proofs.Steps.{Tc}
 use Rattle.helmholtz.proofs.Numbers.{tested}
-use Rattle.properties.proofs.region3_Td.tau_of.Statement.{statement}
-use Rattle.properties.proofs.region3_Td.tau_of.Tie as tie
+use Rattle.properties.proofs.region3_Td.tau_of as own
 
-returns : tie.Need-returns
+returns : own.Tie.Need-returns
 unfolding ofBits decimal scaled
 returns c = tested (named (c .before .over .ensures) (Tc /ʳ raw-check (c .before .before .args .t .0))) (c .finite-or-nan .ensures)
 
-pub tau-of-spec : {M : Type 1} → statement M
-tau-of-spec = tie.close (tie.spec (λ c κs. search needs) (λ c κs. search needs) returns)
+pub tau-of-spec : {M : Type 1} → own.Statement.statement M
+tau-of-spec = own.Tie.close (own.Tie.spec (λ c κs. search needs) (λ c κs. search needs) returns)

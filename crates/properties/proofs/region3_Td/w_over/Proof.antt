@@ -5,13 +5,12 @@ use lib.Ieee.{ofBits, binary64}
 use lib.Ieee.Fits.{mul-fits}
 use borrow.Author.Needs.{needs}
 use Rattle.common.specs.Decimal.{decimal, whole, scaled}
-use Rattle.rules.proofs.Formulas.{raw-rootOf}
+use Rattle.inverses.proofs.Formulas.{raw-rootOf}
 use Rattle.helmholtz.proofs.Steps.{R}
 use Rattle.helmholtz.proofs.Numbers.{tested}
-use Rattle.properties.proofs.region3_Td.w_over.Statement.{statement}
-use Rattle.properties.proofs.region3_Td.w_over.Tie as tie
+use Rattle.properties.proofs.region3_Td.w_over as own
 
-returns : tie.Need-returns
+returns : own.Tie.Need-returns
 unfolding ofBits decimal whole scaled
 returns c =
     let g = c .before .before .before .before .before .before .before .before .before .args in
@@ -26,5 +25,5 @@ returns c =
     let sum = two *ʳ δ *ʳ φδ +ʳ δ *ʳ δ *ʳ raw-check (φ .deltadelta) -ʳ named (c .before .before .over .ensures) (a *ʳ a /ʳ below) in
     tested (named (c .before .raw-root .ensures) (raw-rootOf (mul-fits binary64 _ _) (raw-value (whole 1000) refl *ʳ R *ʳ T *ʳ sum))) (c .finite-or-nan .ensures)
 
-pub w-over-spec : {M : Type 1} → statement M
-w-over-spec = tie.close (tie.spec (λ c κs. search needs) (λ c κs. search needs) (λ c κs. search needs) returns)
+pub w-over-spec : {M : Type 1} → own.Statement.statement M
+w-over-spec = own.Tie.close (own.Tie.spec (λ c κs. search needs) (λ c κs. search needs) (λ c κs. search needs) returns)

@@ -3,20 +3,16 @@ use mathlib.Core.Path.{_≡_, sym, _∙_}
 use borrow.Author.Needs.{needs}
 use Rattle.common.specs.Outcome.{value, check}
 use Rattle.common.proofs.Laws.{check-kept, check-lost}
-use Rattle.record.proofs.state.settle_in.Statement.{statement}
-use Rattle.record.proofs.state.settle_in.Tie as tie
+use Rattle.record.proofs.state.settle_in as own
 
-kept : (c : tie.Then1) → let x = c .before .before .args .x in check x ≡ value x
+kept : (c : own.Tie.Then1) → let x = c .before .before .args .x in check x ≡ value x
 kept c = check-kept (c .before .before .args .x) (sym (c .before .is-finite .ensures) ∙ c .if1 .taken)
 
-returns : tie.Need-returns
-returns c = rw (kept (c .before .before), sym (c .before .ranged .ensures) ∙ c .if2 .taken)
-
-returns-2 : tie.Need-returns-2
-returns-2 c = rw (kept (c .before .before), sym (c .before .ranged .ensures) ∙ c .if2 .left)
-
-returns-3 : tie.Need-returns-3
+returns-3 : own.Tie.Need-returns-3
 returns-3 c = rw (check-lost (c .before .before .args .x) (sym (c .before .is-finite .ensures) ∙ c .if1 .left))
 
-pub settle-in-spec : {M : Type 1} → statement M
-settle-in-spec = tie.close (tie.spec (λ c κs. search needs) (λ c κs. search needs) returns returns-2 returns-3)
+pub settle-in-spec : {M : Type 1} → own.Statement.statement M
+settle-in-spec =
+    own.Tie.close (own.Tie.spec (λ c κs. search needs) (λ c κs. search needs)
+    (λ c. rw (kept (c .before .before), sym (c .before .ranged .ensures) ∙ c .if2 .taken))
+    (λ c. rw (kept (c .before .before), sym (c .before .ranged .ensures) ∙ c .if2 .left)) returns-3)

@@ -2,12 +2,11 @@
 use lib.Ieee.{ofBits}
 use borrow.Author.Needs.{needs}
 use Rattle.common.specs.Decimal.{decimal, whole, scaled}
-use Rattle.record.proofs.state.settle_p.Statement.{statement}
-use Rattle.record.proofs.state.settle_p.Tie as tie
+use Rattle.record.proofs.state.settle_p as own
 
-returns : tie.Need-returns
+returns : own.Tie.Need-returns
 unfolding ofBits decimal whole scaled
 returns c = c .settle-in .ensures
 
-pub settle-p-spec : {M : Type 1} → statement M
-settle-p-spec = tie.close (tie.spec (λ c κs. search needs) returns)
+pub settle-p-spec : {M : Type 1} → own.Statement.statement M
+settle-p-spec = own.Tie.close (own.Tie.spec (λ c κs. search needs) returns)

@@ -2,12 +2,11 @@
 use lib.Ieee.{ofBits}
 use borrow.Author.Needs.{needs}
 use Rattle.common.specs.Decimal.{decimal, whole, scaled}
-use Rattle.record.proofs.state.settle_t.Statement.{statement}
-use Rattle.record.proofs.state.settle_t.Tie as tie
+use Rattle.record.proofs.state.settle_t as own
 
-returns : tie.Need-returns
+returns : own.Tie.Need-returns
 unfolding ofBits decimal whole scaled
 returns c = c .settle-in .ensures
 
-pub settle-t-spec : {M : Type 1} → statement M
-settle-t-spec = tie.close (tie.spec (λ c κs. search needs) returns)
+pub settle-t-spec : {M : Type 1} → own.Statement.statement M
+settle-t-spec = own.Tie.close (own.Tie.spec (λ c κs. search needs) returns)

@@ -7,20 +7,19 @@ use Rattle.common.specs.Answer.{paper}
 use Rattle.common.specs.declared.Answer.{Answer}
 use Rattle.record.specs.State.{volumeOf}
 use Rattle.record.proofs.Laws.{through}
-use Rattle.record.proofs.state.settle_v.Statement.{statement}
-use Rattle.record.proofs.state.settle_v.Tie as tie
+use Rattle.record.proofs.state.settle_v as own
 
 -- the rule, from what the density answered
-answered : (c : tie.After-density) (a : Answer) → c .density .result ≡ a → volumeOf (check (c .before .args .v)) ≡ then (paper a) (λ _. value (c .before .args .v))
+answered : (c : own.Tie.After-density) (a : Answer) → c .density .result ≡ a → volumeOf (check (c .before .args .v)) ≡ then (paper a) (λ _. value (c .before .args .v))
 answered c a e =
     let v = c .before .args .v in
     through v (λ w _. value w) ∙ ap (λ (o : Outcome Float). then o (λ _. value v)) (sym (c .density .ensures) ∙ ap paper e)
 
-returns : tie.Need-returns
+returns : own.Tie.Need-returns
 returns c = sym (answered (c .before .before) _ (c .enum-told .given .1))
 
-returns-2 : tie.Need-returns-2
+returns-2 : own.Tie.Need-returns-2
 returns-2 c = sym (answered (c .before .before .before) _ (c .before .k .given .1))
 
-pub settle-v-spec : {M : Type 1} → statement M
-settle-v-spec = tie.close (tie.spec (λ c κs. search needs) (λ c. search needs) (λ c. search needs) returns returns-2)
+pub settle-v-spec : {M : Type 1} → own.Statement.statement M
+settle-v-spec = own.Tie.close (own.Tie.spec (λ c κs. search needs) (λ c. search needs) (λ c. search needs) returns returns-2)

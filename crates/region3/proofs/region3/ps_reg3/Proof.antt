@@ -1,20 +1,19 @@
 -- `region3::ps_reg3`: the box, what is found, then the record.
 use borrow.Author.Needs.{needs}
 use Rattle.region3.specs.Entries.{psRule}
-use Rattle.region3.proofs.region3.ps_reg3.Statement.{statement}
-use Rattle.region3.proofs.region3.ps_reg3.Tie as tie
+use Rattle.region3.proofs.region3.ps_reg3 as own
 
-returns : tie.Need-returns
+returns : own.Tie.Need-returns
 unfolding psRule
 returns c =
     let m = c .before .before in
     rw (← (m .before .before .check-ps .ensures), m .enum-told .given .1, ← (c .before .found-ps .ensures)) (c .record-of .ensures)
 
-returns-2 : tie.Need-returns-2
+returns-2 : own.Tie.Need-returns-2
 unfolding psRule
 returns-2 c = let m = c .before .before in rw (← (m .before .before .check-ps .ensures), m .k .given .1) (c .refuse .ensures)
 
-pub ps-reg3-spec : {M : Type 1} → statement M
+pub ps-reg3-spec : {M : Type 1} → own.Statement.statement M
 ps-reg3-spec =
-    tie.close (tie.spec (λ c κs. search needs) (λ c. search needs) (λ c κs. search needs) (λ c κs. search needs) (λ c. search needs)
+    own.Tie.close (own.Tie.spec (λ c κs. search needs) (λ c. search needs) (λ c κs. search needs) (λ c κs. search needs) (λ c. search needs)
     (λ c κs. search needs) returns returns-2)

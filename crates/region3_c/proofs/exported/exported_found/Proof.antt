@@ -2,12 +2,11 @@
 use mathlib.Core.Path.{refl}
 use lib.Ieee.{ofBits}
 use borrow.Author.Needs.{needs}
-use Rattle.region3_c.proofs.exported.exported_found.Statement.{statement}
-use Rattle.region3_c.proofs.exported.exported_found.Tie as tie
+use Rattle.region3_c.proofs.exported.exported_found as own
 
-returns-2 : tie.Need-returns-2
+returns-2 : own.Tie.Need-returns-2
 unfolding ofBits
 returns-2 c = rw (c .before .before .a2 .given .1) (c .number .ensures, refl, refl)
 
-pub exported-found-spec : {M : Type 1} → statement M
-exported-found-spec = tie.close (tie.spec (λ c. search needs) (λ c. search needs) (λ c. search needs) (λ c κs. search needs) returns-2)
+pub exported-found-spec : {M : Type 1} → own.Statement.statement M
+exported-found-spec = own.Tie.close (own.Tie.spec (λ c. search needs) (λ c. search needs) (λ c. search needs) (λ c κs. search needs) returns-2)

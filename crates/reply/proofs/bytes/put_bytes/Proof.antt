@@ -11,20 +11,19 @@ use Rattle.buffer.specs.Bytes.{joined, eight}
 use Rattle.buffer.proofs.Laws.{sets-append, placed-all, pieces-more}
 use Rattle.reply.proofs.Laws.{number-length}
 use Rattle.reply.specs.Bytes.{numberBytes, headBytes, replyBytes}
-use Rattle.reply.proofs.bytes.put_bytes.Statement.{statement}
-use Rattle.reply.proofs.bytes.put_bytes.Tie as tie
+use Rattle.reply.proofs.bytes.put_bytes as own
 
-abbrev Inv-loop : tie.InvT-loop
+abbrev Inv-loop : own.Tie.InvT-loop
 Inv-loop out₀ at numbers k₀ out k = (k ≤ 10) × (length out ≡ length out₀) × (out ≡ sets out₀ (at + 8) (joined (numberBytes numbers) k))
 
-abbrev μ-loop : tie.MeasureT-loop
+abbrev μ-loop : own.Tie.MeasureT-loop
 μ-loop out₀ at numbers k₀ out k = 10 - k
 
-loop-holds : tie.Need-loop-holds Inv-loop μ-loop
+loop-holds : own.Tie.Need-loop-holds Inv-loop μ-loop
 unfolding joined
 loop-holds c = search needs
 
-loop-again : tie.Need-loop-again Inv-loop μ-loop
+loop-again : own.Tie.Need-loop-again Inv-loop μ-loop
 loop-again c =
     let p = c .before .before in
     let l = c .before .before .before .before .before in
@@ -39,7 +38,7 @@ loop-again c =
           ∙ pieces-more f 8 (number-length (s .args .r .numbers)) (w .put-word .last .0) (l .loop .out) (s .args .at + 8) k (s .args .at + 8 + 8 * k) (l .loop .inv .2) refl,
     )
 
-returns : tie.Need-returns Inv-loop μ-loop
+returns : own.Tie.Need-returns Inv-loop μ-loop
 unfolding replyBytes
 returns c =
     let l = c .before in
@@ -55,8 +54,8 @@ returns c =
     (w .put-word .ensures ∙ placed-all (a .out .now) (a .at) (eight n) (omega (arith, s .pre)) ∙ ap (λ (m : List ℕ). sets (a .out .now) (a .at) m) (w .before .head .ensures))
     ∙ sets-append head (joined f 10) (a .out .now) (a .at)
 
-pub put-bytes-spec : {M : Type 1} → statement M
+pub put-bytes-spec : {M : Type 1} → own.Statement.statement M
 put-bytes-spec =
-    tie.close (tie.spec Inv-loop μ-loop (λ c κs. search needs) (λ c κs. search needs) loop-holds (λ c. search needs) (λ c. search needs)
+    own.Tie.close (own.Tie.spec Inv-loop μ-loop (λ c κs. search needs) (λ c κs. search needs) loop-holds (λ c. search needs) (λ c. search needs)
     (λ c. search needs) (λ c. search needs) (λ c. omega arith) (λ c κs. search needs) (λ c. search needs) (λ c. search needs) loop-again
     (λ c. search needs) returns)

@@ -12,25 +12,24 @@ use borrow.Author.Needs.{needs}
 use borrow.Author.Tests.{le-leb}
 use Rattle.buffer.specs.Bytes.{joined, floatAt, floatIn}
 use Rattle.rows.proofs.Laws.{column-more}
-use Rattle.rows.proofs.take.take_rows.Statement.{statement}
-use Rattle.rows.proofs.take.take_rows.Tie as tie
+use Rattle.rows.proofs.take.take_rows as own
 
 -- a float that lies in the bytes
 float-in : (s : List ℕ) (i : ℕ) → i + 8 ≤ length s → floatIn s i ≡ floatAt s i
 float-in s i h = rw (le-leb (i + 8) (length s) h)
 
-abbrev Inv-loop : tie.InvT-loop
+abbrev Inv-loop : own.Tie.InvT-loop
 Inv-loop s n ps₀ ts₀ i₀ ps ts i =
     (i ≤ n) × (length ps ≡ length ps₀) × (length ts ≡ length ts₀) × (ps ≡ sets ps₀ 0 (pColumn s i)) × (ts ≡ sets ts₀ 0 (tColumn s i))
 
-abbrev μ-loop : tie.MeasureT-loop
+abbrev μ-loop : own.Tie.MeasureT-loop
 μ-loop s n ps₀ ts₀ i₀ ps ts i = n - i
 
-loop-holds : tie.Need-loop-holds Inv-loop μ-loop
+loop-holds : own.Tie.Need-loop-holds Inv-loop μ-loop
 unfolding joined
 loop-holds c = (omega arith, refl, refl, refl, refl)
 
-loop-again : tie.Need-loop-again Inv-loop μ-loop
+loop-again : own.Tie.Need-loop-again Inv-loop μ-loop
 loop-again c =
     let l = c .before .before .before in
     let a = l .before .before .before .before .args in
@@ -44,7 +43,7 @@ loop-again c =
           ∙ column-more (a .ts .now) (tAt (a .s .now)) i (c .float-at2 .result) (c .float-at2 .ensures ∙ float-in (a .s .now) (16 * i + 8) (omega arith)),
     )
 
-returns : tie.Need-returns Inv-loop μ-loop
+returns : own.Tie.Need-returns Inv-loop μ-loop
 returns c =
     let l = c .before in
     let a = l .before .before .before .before .args in
@@ -53,8 +52,8 @@ returns c =
       l .loop .inv .4 ∙ ap (λ (k : ℕ). sets (a .ts .now) 0 (tColumn (a .s .now) k)) e,
     )
 
-pub take-rows-spec : {M : Type 1} → statement M
+pub take-rows-spec : {M : Type 1} → own.Statement.statement M
 take-rows-spec =
-    tie.close (tie.spec Inv-loop μ-loop loop-holds (λ c. omega arith) (λ c κs. search needs) (λ c. omega arith) (λ c. omega arith) (λ c. omega arith)
+    own.Tie.close (own.Tie.spec Inv-loop μ-loop loop-holds (λ c. omega arith) (λ c κs. search needs) (λ c. omega arith) (λ c. omega arith) (λ c. omega arith)
     (λ c. omega arith) (λ c κs. search needs) (λ c. omega arith) (λ c. omega arith) (λ c. omega arith) (λ c. omega arith) loop-again
     (λ c. omega arith) (λ c. omega arith) returns)

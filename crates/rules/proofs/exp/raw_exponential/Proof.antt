@@ -2,11 +2,8 @@
 use mathlib.Core.Path.{_∙_, ap}
 use Rattle.common.specs.Outcome.{orNan}
 use borrow.Author.Needs.{needs}
-use Rattle.rules.proofs.exp.raw_exponential.Statement.{statement}
-use Rattle.rules.proofs.exp.raw_exponential.Tie as tie
+use Rattle.rules.proofs.exp.raw_exponential as own
 
-returns : tie.Need-returns
-returns c = c .or-nan .ensures ∙ ap orNan (c .before .exponential .ensures)
-
-pub raw-exponential-spec : {M : Type 1} → statement M
-raw-exponential-spec = tie.close (tie.spec (λ c κs. search needs) (λ c κs. search needs) returns)
+pub raw-exponential-spec : {M : Type 1} → own.Statement.statement M
+raw-exponential-spec =
+    own.Tie.close (own.Tie.spec (λ c κs. search needs) (λ c κs. search needs) (λ c. c .or-nan .ensures ∙ ap orNan (c .before .exponential .ensures)))

@@ -1,35 +1,21 @@
 -- The proof of the cycle of calls {by_bits}. The measure is the exponent: its half is less, where that is not 0.
 -- Assumes nothing.
-use mathlib.Core.Path.{_≡_, refl, sym, ap, _∙_}
+use mathlib.Core.Path.{_≡_, sym, ap, _∙_}
 use mathlib.Core.Logic.{⊎-elim}
-use Prim.Native.Nat.{ℕ, zero, suc, _/_, _%_, _*_, _^_, _<_}
-use native.Mathlib.Nat.{pow-suc}
+use Prim.Native.Nat.{ℕ, suc, _/_, _%_, _<_}
 use native.Mathlib.Omega.{arith}
 use lib.Ieee.{Float, binary64, mul}
 use borrow.Author.Tests.{eq-eqb, ne-eqb}
 use borrow.Fn.Kinds.{In}
 use borrow.Fn.PlainCycle.{Measures, is, falls, and}
-use Rattle.rules.specs.Power.{odd}
-use Rattle.rules.specs.RawPower.{times, rawByBits, rawHigherBits}
+use Rattle.rules.specs.Power.{odd, lowest}
+use Rattle.rules.specs.RawPower.{times, overBits}
+use Rattle.rules.proofs.Powers.{last, more}
 use Rattle.rules.proofs.powi.by_bits.Reads as by-bits
 use Rattle.rules.proofs.powi.by_bits.Kinds as by-bits-kinds
 use Rattle.rules.proofs.powi.+by_bits.Lts-by_bits as by-bits-lts
 use Rattle.rules.proofs.powi.+by_bits.{statement}
 use Rattle.rules.proofs.powi.+by_bits.Tie.{close}
-
--- no higher bit remains
-last : (k : ℕ) (r a : Float) (n : ℕ) → n / 2 ≡ 0 → rawByBits k r a n ≡ times (odd n) r a
-unfolding rawHigherBits
-last zero r a n h = refl
-last (suc k) r a n h = rw (eq-eqb (n / 2) 0 h)
-
--- one remains: from its half on
-more : (k : ℕ) (r a out : Float) (n : ℕ) → (n / 2 ≡ 0 → ⊥) → n < 2 ^ suc k → ((j : ℕ) → n / 2 < 2 ^ suc j → out ≡ rawByBits j (times (odd n) r a) (mul binary64 a a) (n / 2)) → out ≡ rawByBits k r a n
-unfolding rawHigherBits
-more zero r a out n h l e = absurd (h (omega arith))
-more (suc k) r a out n h l e =
-    let half : n / 2 < 2 ^ suc k = let p : 2 ^ suc (suc k) ≡ 2 ^ suc k * 2 = pow-suc 2 (suc k) in omega arith in
-    rw (ne-eqb (n / 2) 0 h) (e k half)
 
 abbrev μ-by-bits : Measures 0 by-bits-kinds.ps ℕ
 μ-by-bits κs a = a .1 .1 .0
@@ -49,19 +35,16 @@ stepped t c =
     (λ w. rw (ne-eqb (c .before .args .n % 2) 1 (w .0 .left)) (w .1))
     (c .if1 .came)
 
-by-bits-returns :
-    (t : ℕ) → by-bits-lts.Need-returns (by-bits-below t, by-bits.Post) (by-bits-at t) by-bits.Post
+by-bits-returns : (t : ℕ) → by-bits-lts.Need-returns (by-bits-below t, by-bits.Post) (by-bits-at t) by-bits.Post
 by-bits-returns t c k l =
     let a = c .before .before .args in
-    stepped t (c .before) ∙ sym (last k (a .r) (a .a) (a .n) (c .if2 .taken))
+    stepped t (c .before) ∙ sym (last (λ r. r) k (a .r) (a .a) (a .n) (c .if2 .taken))
 
-by-bits-returns-2 :
-    (t : ℕ) →
-    by-bits-lts.Need-returns-2 (by-bits-below t, by-bits.Post) (by-bits-at t) by-bits.Post
+by-bits-returns-2 : (t : ℕ) → by-bits-lts.Need-returns-2 (by-bits-below t, by-bits.Post) (by-bits-at t) by-bits.Post
 by-bits-returns-2 t c k l =
     let a = c .before .before .before .args in
-    more k (a .r) (a .a) (c .by-bits .result) (a .n) (c .before .if2 .left) l
-    (λ j h. c .by-bits .ensures j h ∙ ap (λ (s : Float). rawByBits j s (mul binary64 (a .a) (a .a)) (a .n / 2)) (stepped t (c .before .before)))
+    more (λ r. r) k (a .r) (a .a) (c .by-bits .result) (a .n) (c .before .if2 .left) l
+    (λ j h. c .by-bits .ensures j h ∙ ap (λ (s : Float). overBits (λ r. r) s (mul binary64 (a .a) (a .a)) (lowest (suc j) (a .n / 2))) (stepped t (c .before .before)))
 
 pub +by-bits-spec : {M : Type 1} → statement M
 +by-bits-spec =

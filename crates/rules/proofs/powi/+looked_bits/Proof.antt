@@ -2,8 +2,7 @@
 -- Assumes nothing.
 use mathlib.Core.Path.{_≡_, sym, ap, _∙_}
 use mathlib.Core.Logic.{⊎-elim}
-use Prim.Native.Nat.{ℕ, zero, suc, _/_, _%_, _*_, _^_, _<_}
-use native.Mathlib.Nat.{pow-suc}
+use Prim.Native.Nat.{ℕ, suc, _/_, _%_, _<_}
 use native.Mathlib.Omega.{arith}
 use lib.Ieee.{Float, binary64, mul}
 use borrow.Author.Tests.{eq-eqb, ne-eqb}
@@ -12,27 +11,13 @@ use borrow.Fn.PlainCycle.{Measures, is, falls, and}
 use Rattle.sizes.specs.Lost.{looked}
 use Rattle.rules.specs.Power.{odd, lowest}
 use Rattle.rules.specs.RawPower.{taken, overBits}
-use Rattle.rules.proofs.Powers.{zeros}
+use Rattle.rules.proofs.Powers.{last, more}
 use Rattle.rules.proofs.powi.looked_bits.Reads as looked-bits
 use Rattle.rules.proofs.powi.looked_bits.Kinds as looked-bits-kinds
 use Rattle.rules.proofs.powi.+looked_bits.Lts-looked_bits as looked-bits-lts
 use Rattle.sizes.proofs.look.Reads as look-reads
 use Rattle.rules.proofs.powi.+looked_bits.{statement}
 use Rattle.rules.proofs.powi.+looked_bits.Tie.{close}
-
--- no higher bit remains
-last : (a : Float) (k : ℕ) (r x : Float) (n : ℕ) → n / 2 ≡ 0 → overBits (looked a) r x (lowest (suc k) n) ≡ taken (looked a) (odd n) r x
-unfolding overBits lowest
-last a k r x n h = rw h (zeros (looked a) k (taken (looked a) (odd n) r x) (mul binary64 x x))
-
--- one remains: from its half on
-more : (a : Float) (k : ℕ) (r x out : Float) (n : ℕ) → (n / 2 ≡ 0 → ⊥) → n < 2 ^ suc k
-    → ((j : ℕ) → n / 2 < 2 ^ suc j → out ≡ overBits (looked a) (taken (looked a) (odd n) r x) (mul binary64 x x) (lowest (suc j) (n / 2))) → out ≡ overBits (looked a) r x (lowest (suc k) n)
-unfolding overBits lowest
-more a zero r x out n h l e = absurd (h (omega arith))
-more a (suc k) r x out n h l e =
-    let half : n / 2 < 2 ^ suc k = let p : 2 ^ suc (suc k) ≡ 2 ^ suc k * 2 = pow-suc 2 (suc k) in omega arith in
-    e k half
 
 abbrev μ-looked-bits : Measures 0 looked-bits-kinds.ps ℕ
 μ-looked-bits κs a = a .1 .1 .1 .0
@@ -55,12 +40,12 @@ stepped t c =
 looked-bits-returns : (t : ℕ) → looked-bits-lts.Need-returns (look-reads.Asked, look-reads.Learnt, looked-bits-below t, looked-bits.Post) (looked-bits-at t) looked-bits.Post
 looked-bits-returns t c k l =
     let a = c .before .before .args in
-    stepped t (c .before) ∙ sym (last (a .a) k (a .r) (a .x) (a .n) (c .if2 .taken))
+    stepped t (c .before) ∙ sym (last (looked (a .a)) k (a .r) (a .x) (a .n) (c .if2 .taken))
 
 looked-bits-returns-2 : (t : ℕ) → looked-bits-lts.Need-returns-2 (look-reads.Asked, look-reads.Learnt, looked-bits-below t, looked-bits.Post) (looked-bits-at t) looked-bits.Post
 looked-bits-returns-2 t c k l =
     let a = c .before .before .before .args in
-    more (a .a) k (a .r) (a .x) (c .looked-bits .result) (a .n) (c .before .if2 .left) l
+    more (looked (a .a)) k (a .r) (a .x) (c .looked-bits .result) (a .n) (c .before .if2 .left) l
     (λ j h. c .looked-bits .ensures j h ∙ ap (λ (s : Float). overBits (looked (a .a)) s (mul binary64 (a .x) (a .x)) (lowest (suc j) (a .n / 2))) (stepped t (c .before .before)))
 
 pub +looked-bits-spec : {M : Type 1} → statement M

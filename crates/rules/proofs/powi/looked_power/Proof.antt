@@ -16,11 +16,10 @@ use Rattle.rules.specs.Power.{one, lowest, bits}
 use Rattle.rules.specs.RawPower.{overBits, bySignOf, lookedPower}
 use Rattle.rules.proofs.Powers.{enough}
 use Rattle.rules.proofs.SignOf.{small, whole, inverse, lost}
-use Rattle.rules.proofs.powi.looked_power.Statement.{statement}
-use Rattle.rules.proofs.powi.looked_power.Tie as tie
+use Rattle.rules.proofs.powi.looked_power as own
 
 -- r by the bits
-bits-are : (c : tie.After-looked-bits) → let a = c .before .before .args in c .looked-bits .result ≡ overBits (looked (a .a)) one (a .a) (bits (natAbs (a .n)))
+bits-are : (c : own.Tie.After-looked-bits) → let a = c .before .before .args in c .looked-bits .result ≡ overBits (looked (a .a)) one (a .a) (bits (natAbs (a .n)))
 unfolding ofBits
 bits-are c =
     let s = c .before .before in
@@ -31,7 +30,7 @@ bits-are c =
     ∙ ap (λ (m : ℕ). overBits (looked (s .args .a)) one (s .args .a) (lowest 32 m)) m
     ∙ enough (looked (s .args .a)) 32 (size n) one (s .args .a) n b (size-lt n)
 
-returns : tie.Need-returns
+returns : own.Tie.Need-returns
 unfolding lookedPower ofBits
 returns c =
     let b = c .before .before .before .before in
@@ -40,7 +39,7 @@ returns c =
     let f : finite (b .looked-bits .result) ≡ true = sym (c .before .before .is-finite .ensures) ∙ c .before .if2 .taken in
     c .look .ensures ∙ sym (ap (bySignOf (looked (a .a)) (a .n)) (sym (bits-are b)) ∙ inverse (looked (a .a)) (a .n) (b .looked-bits .result) h f)
 
-returns-2 : tie.Need-returns-2
+returns-2 : own.Tie.Need-returns-2
 unfolding lookedPower
 returns-2 c =
     let b = c .before .before .before in
@@ -48,7 +47,7 @@ returns-2 c =
     let f : finite (b .looked-bits .result) ≡ false = sym (c .before .is-finite .ensures) ∙ c .if2 .left in
     sym (ap (bySignOf (looked (a .a)) (a .n)) (sym (bits-are b)) ∙ lost (looked (a .a)) (a .n) (b .looked-bits .result) f)
 
-returns-3 : tie.Need-returns-3
+returns-3 : own.Tie.Need-returns-3
 unfolding lookedPower
 returns-3 c =
     let b = c .before in
@@ -56,6 +55,7 @@ returns-3 c =
     let h : ltZ (a .n) (pos 0) ≡ false = rw (toZ-ofZ w32 (a .n) (b .before .before .fits .n)) at (c .if1 .left) in
     sym (ap (bySignOf (looked (a .a)) (a .n)) (sym (bits-are b)) ∙ whole (looked (a .a)) (a .n) (b .looked-bits .result) h)
 
-pub looked-power-spec : {M : Type 1} → statement M
+pub looked-power-spec : {M : Type 1} → own.Statement.statement M
 looked-power-spec =
-    tie.close (tie.spec (λ c κs. search needs) (λ c κs. search needs) (λ c κs. search needs) (λ c κs. search needs) returns returns-2 returns-3)
+    own.Tie.close (own.Tie.spec (λ c κs. search needs) (λ c κs. search needs) (λ c κs. search needs) (λ c κs. search needs) returns returns-2
+    returns-3)

@@ -11,8 +11,7 @@ use mir.Val.{Fits, SFits, toZ, ofZ}
 use mir.ValLaws.{toZ-ofZ}
 use borrow.Author.Needs.{needs}
 use borrow.Author.Tests.{ltb-true}
-use Rattle.rules.proofs.powi.magnitude.Statement.{statement}
-use Rattle.rules.proofs.powi.magnitude.Tie as tie
+use Rattle.rules.proofs.powi.magnitude as own
 
 wide : (z : ℤ) → SFits w32 z → SFits w64 z
 wide z f = record { sfits = omega arith }
@@ -38,36 +37,36 @@ clear : (z : ℤ) → SFits w32 z → ltZ z (pos 0) ≡ true → toZ w64 (ofZ w6
 clear z f h =
     rw (toZ-ofZ w32 z f, toZ-ofZ w64 z (wide z f), toZ-ofZ w64 (pos 0 -ℤ z) (turned z f h .fits))
 
-below : (c : tie.Then1) → ltZ (c .before .args .n) (pos 0) ≡ true
+below : (c : own.Tie.Then1) → ltZ (c .before .args .n) (pos 0) ≡ true
 below c = rw (toZ-ofZ w32 (c .before .args .n) (c .before .fits .n)) at (c .if1 .taken)
 
-above : (c : tie.Else1) → ltZ (c .before .args .n) (pos 0) ≡ false
+above : (c : own.Tie.Else1) → ltZ (c .before .args .n) (pos 0) ≡ false
 above c = rw (toZ-ofZ w32 (c .before .args .n) (c .before .fits .n)) at (c .if1 .left)
 
-cast-result : tie.Need-cast-result
+cast-result : own.Tie.Need-cast-result
 cast-result c = rw (toZ-ofZ w32 (c .before .args .n) (c .before .fits .n)) (wide (c .before .args .n) (c .before .fits .n))
 
-sub-result : tie.Need-sub-result
+sub-result : own.Tie.Need-sub-result
 sub-result c =
     let z = c .before .args .n in
     let f = c .before .fits .n in
     rw (toZ-ofZ w32 z f, toZ-ofZ w64 z (wide z f)) (turned z f (below c) .fits)
 
-cast-result-2 : tie.Need-cast-result-2
+cast-result-2 : own.Tie.Need-cast-result-2
 cast-result-2 c =
     let z = c .before .args .n in
     let f = c .before .fits .n in
     let t = turned z f (below c) in
     rw (clear z f (below c)) (t .up, t .small)
 
-cast-result-3 : tie.Need-cast-result-3
+cast-result-3 : own.Tie.Need-cast-result-3
 cast-result-3 c = rw (toZ-ofZ w32 (c .before .args .n) (c .before .fits .n)) (upward (c .before .args .n) (c .before .fits .n) (above c))
 
-returns : tie.Need-returns
+returns : own.Tie.Need-returns
 returns c =
     let z = c .before .args .n in
     let f = c .before .fits .n in
     rw (clear z f (below c)) (turned z f (below c) .same)
 
-pub magnitude-spec : {M : Type 1} → statement M
-magnitude-spec = tie.close (tie.spec cast-result sub-result cast-result-2 cast-result-3 returns (λ c. search needs))
+pub magnitude-spec : {M : Type 1} → own.Statement.statement M
+magnitude-spec = own.Tie.close (own.Tie.spec cast-result sub-result cast-result-2 cast-result-3 returns (λ c. search needs))

@@ -5,13 +5,12 @@ use mir.ValLaws.{toZ-ofZ}
 use Rattle.common.specs.Outcome.{orNan}
 use Rattle.rules.specs.Power.{powerRule}
 use borrow.Author.Needs.{needs}
-use Rattle.rules.proofs.powi.raw_power.Statement.{statement}
-use Rattle.rules.proofs.powi.raw_power.Tie as tie
+use Rattle.rules.proofs.powi.raw_power as own
 
-returns : tie.Need-returns
+returns : own.Tie.Need-returns
 returns c =
     let s = c .before .before in
     c .or-nan .ensures ∙ ap orNan (c .before .power .ensures ∙ ap (powerRule (s .args .a)) (toZ-ofZ w32 (s .args .n) (s .fits .n)))
 
-pub raw-power-spec : {M : Type 1} → statement M
-raw-power-spec = tie.close (tie.spec (λ c κs. search needs) (λ c κs. search needs) returns)
+pub raw-power-spec : {M : Type 1} → own.Statement.statement M
+raw-power-spec = own.Tie.close (own.Tie.spec (λ c κs. search needs) (λ c κs. search needs) returns)

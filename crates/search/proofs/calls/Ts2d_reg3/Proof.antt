@@ -5,12 +5,11 @@ use Rattle.common.specs.Outcome.{Outcome, then}
 use Rattle.secant.specs.declared.Curve.the-variants.{Entropy}
 use Rattle.place.specs.AcceptedPlace.{foundOn}
 use Rattle.search.specs.Calls.{Ts2d-reg3Rule}
-use Rattle.search.proofs.calls.Ts2d_reg3.Statement.{statement}
-use Rattle.search.proofs.calls.Ts2d_reg3.Tie as tie
+use Rattle.search.proofs.calls.Ts2d_reg3 as own
 
-returns : tie.Need-returns
+returns : own.Tie.Need-returns
 unfolding Ts2d-reg3Rule
 returns c = let a = c .before .before .args in c .found-in .ensures ∙ ap (λ (o : Outcome Unit). then o (λ _. foundOn (Entropy (a .t .0)) (a .s .0))) (c .before .check-Ts .ensures)
 
-pub Ts2d-reg3-spec : {M : Type 1} → statement M
-Ts2d-reg3-spec = tie.close (tie.spec (λ c κs. search needs) (λ c κs. search needs) returns)
+pub Ts2d-reg3-spec : {M : Type 1} → own.Statement.statement M
+Ts2d-reg3-spec = own.Tie.close (own.Tie.spec (λ c κs. search needs) (λ c κs. search needs) returns)

@@ -2,12 +2,11 @@
 use mathlib.Core.Path.{sym}
 use borrow.Author.Needs.{needs}
 use Rattle.search.specs.Calls.{TsRule}
-use Rattle.search.proofs.calls.Ts_reg3.Statement.{statement}
-use Rattle.search.proofs.calls.Ts_reg3.Tie as tie
+use Rattle.search.proofs.calls.Ts_reg3 as own
 
-returns : tie.Need-returns
+returns : own.Tie.Need-returns
 unfolding TsRule
 returns c = rw (sym (c .before .Ts2d-reg3 .ensures)) (c .on-isotherm .ensures)
 
-pub Ts-reg3-spec : {M : Type 1} → statement M
-Ts-reg3-spec = tie.close (tie.spec (λ c κs. search needs) (λ c κs. search needs) returns)
+pub Ts-reg3-spec : {M : Type 1} → own.Statement.statement M
+Ts-reg3-spec = own.Tie.close (own.Tie.spec (λ c κs. search needs) (λ c κs. search needs) returns)

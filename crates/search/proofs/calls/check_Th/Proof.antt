@@ -2,12 +2,11 @@
 use lib.Ieee.{ofBits, round}
 use borrow.Author.Needs.{needs}
 use Rattle.common.specs.Decimal.{decimal, whole, scaled}
-use Rattle.search.proofs.calls.check_Th.Statement.{statement}
-use Rattle.search.proofs.calls.check_Th.Tie as tie
+use Rattle.search.proofs.calls.check_Th as own
 
-returns : tie.Need-returns
+returns : own.Tie.Need-returns
 unfolding ofBits decimal whole scaled round
 returns c = c .check-pair .ensures
 
-pub check-Th-spec : {M : Type 1} → statement M
-check-Th-spec = tie.close (tie.spec (λ c κs. search needs) returns)
+pub check-Th-spec : {M : Type 1} → own.Statement.statement M
+check-Th-spec = own.Tie.close (own.Tie.spec (λ c κs. search needs) returns)

@@ -2,12 +2,11 @@
 use lib.Ieee.{ofBits, round}
 use borrow.Author.Needs.{needs}
 use Rattle.common.specs.Decimal.{decimal, whole, scaled}
-use Rattle.search.proofs.calls.check_Ts.Statement.{statement}
-use Rattle.search.proofs.calls.check_Ts.Tie as tie
+use Rattle.search.proofs.calls.check_Ts as own
 
-returns : tie.Need-returns
+returns : own.Tie.Need-returns
 unfolding ofBits decimal whole scaled round
 returns c = c .check-pair .ensures
 
-pub check-Ts-spec : {M : Type 1} → statement M
-check-Ts-spec = tie.close (tie.spec (λ c κs. search needs) returns)
+pub check-Ts-spec : {M : Type 1} → own.Statement.statement M
+check-Ts-spec = own.Tie.close (own.Tie.spec (λ c κs. search needs) returns)

@@ -3,10 +3,9 @@ use mathlib.Core.Path.{sym, _∙_}
 use lib.Ieee.{ofBits, round}
 use borrow.Author.Needs.{needs}
 use Rattle.common.specs.Decimal.{decimal, whole, scaled}
-use Rattle.search.proofs.calls.check_pv.Statement.{statement}
-use Rattle.search.proofs.calls.check_pv.Tie as tie
+use Rattle.search.proofs.calls.check_pv as own
 
-returns : tie.Need-returns
+returns : own.Tie.Need-returns
 unfolding ofBits decimal whole scaled round
 returns c =
     let k3 = c .before .before .before in
@@ -19,7 +18,7 @@ returns c =
       sym (c .before .ranged .ensures) ∙ c .if4 .taken,
     )
 
-returns-2 : tie.Need-returns-2
+returns-2 : own.Tie.Need-returns-2
 unfolding ofBits decimal whole scaled round
 returns-2 c =
     let k3 = c .before .before .before in
@@ -32,19 +31,16 @@ returns-2 c =
       sym (c .before .ranged .ensures) ∙ c .if4 .left,
     )
 
-returns-3 : tie.Need-returns-3
+returns-3 : own.Tie.Need-returns-3
 returns-3 c =
     let k2 = c .before .before in
     let k1 = k2 .before .before in
     rw (sym (k1 .before .is-finite .ensures) ∙ k1 .if1 .taken, sym (k2 .before .is-finite2 .ensures) ∙ k2 .if2 .taken, sym (c .before .in-p .ensures) ∙ c .if3 .left)
 
-returns-4 : tie.Need-returns-4
+returns-4 : own.Tie.Need-returns-4
 returns-4 c = let k1 = c .before .before in rw (sym (k1 .before .is-finite .ensures) ∙ k1 .if1 .taken, sym (c .before .is-finite2 .ensures) ∙ c .if2 .left)
 
-returns-5 : tie.Need-returns-5
-returns-5 c = rw (sym (c .before .is-finite .ensures) ∙ c .if1 .left)
-
-pub check-pv-spec : {M : Type 1} → statement M
+pub check-pv-spec : {M : Type 1} → own.Statement.statement M
 check-pv-spec =
-    tie.close (tie.spec (λ c κs. search needs) (λ c κs. search needs) (λ c κs. search needs) (λ c κs. search needs) returns returns-2 returns-3
-    returns-4 returns-5)
+    own.Tie.close (own.Tie.spec (λ c κs. search needs) (λ c κs. search needs) (λ c κs. search needs) (λ c κs. search needs) returns returns-2 returns-3
+    returns-4 (λ c. rw (sym (c .before .is-finite .ensures) ∙ c .if1 .left)))

@@ -5,17 +5,16 @@ use borrow.Author.Needs.{needs}
 use Rattle.common.specs.Decimal.{whole, scaled}
 use Rattle.place.specs.AcceptedPlace.{paperFound}
 use Rattle.search.specs.Calls.{pvRule}
-use Rattle.search.proofs.calls.pv_reg3.Statement.{statement}
-use Rattle.search.proofs.calls.pv_reg3.Tie as tie
+use Rattle.search.proofs.calls.pv_reg3 as own
 
-returns : tie.Need-returns
+returns : own.Tie.Need-returns
 unfolding pvRule ofBits whole scaled round
 returns c = let s = c .before .before .before in rw (sym (s .before .before .pv2T-reg3 .ensures) ∙ ap paperFound (s .t .given .1)) (c .record-at .ensures)
 
-returns-2 : tie.Need-returns-2
+returns-2 : own.Tie.Need-returns-2
 unfolding pvRule
 returns-2 c = let s = c .before .before in rw (sym (s .before .before .pv2T-reg3 .ensures) ∙ ap paperFound (s .k .given .1)) (c .refused-record .ensures)
 
-pub pv-reg3-spec : {M : Type 1} → statement M
+pub pv-reg3-spec : {M : Type 1} → own.Statement.statement M
 pv-reg3-spec =
-    tie.close (tie.spec (λ c κs. search needs) (λ c. search needs) (λ c κs. search needs) (λ c. search needs) (λ c κs. search needs) returns returns-2)
+    own.Tie.close (own.Tie.spec (λ c κs. search needs) (λ c. search needs) (λ c κs. search needs) (λ c. search needs) (λ c κs. search needs) returns returns-2)

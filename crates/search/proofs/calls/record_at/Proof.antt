@@ -5,13 +5,12 @@ use Rattle.td_record.specs.Steps.{recordSteps}
 use Rattle.td_record.specs.declared.Pressure.the-variants.{Worked}
 use Rattle.search.specs.Calls.{withTrials}
 use Rattle.search.proofs.Laws.{told}
-use Rattle.search.proofs.calls.record_at.Statement.{statement}
-use Rattle.search.proofs.calls.record_at.Tie as tie
+use Rattle.search.proofs.calls.record_at as own
 
-returns : tie.Need-returns
+returns : own.Tie.Need-returns
 returns c =
     let a = c .before .before .args in
     c .counted .ensures ∙ ap (withTrials (a .trials)) (c .before .work-record .ensures) ∙ told (recordSteps (a .t .0) (a .d .0) (a .v) Worked) (a .trials)
 
-pub record-at-spec : {M : Type 1} → statement M
-record-at-spec = tie.close (tie.spec (λ c κs. search needs) (λ c κs. search needs) returns)
+pub record-at-spec : {M : Type 1} → own.Statement.statement M
+record-at-spec = own.Tie.close (own.Tie.spec (λ c κs. search needs) (λ c κs. search needs) returns)

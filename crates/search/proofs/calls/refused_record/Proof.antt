@@ -3,11 +3,10 @@ use mathlib.Core.Path.{ap, _∙_}
 use borrow.Author.Needs.{needs}
 use Rattle.search.specs.Calls.{withTrials}
 use Rattle.search.proofs.Laws.{told-refused}
-use Rattle.search.proofs.calls.refused_record.Statement.{statement}
-use Rattle.search.proofs.calls.refused_record.Tie as tie
+use Rattle.search.proofs.calls.refused_record as own
 
-returns : tie.Need-returns
+returns : own.Tie.Need-returns
 returns c = c .counted .ensures ∙ ap (withTrials 0) (c .before .refuse .ensures) ∙ told-refused _ 0
 
-pub refused-record-spec : {M : Type 1} → statement M
-refused-record-spec = tie.close (tie.spec (λ c κs. search needs) (λ c κs. search needs) returns)
+pub refused-record-spec : {M : Type 1} → own.Statement.statement M
+refused-record-spec = own.Tie.close (own.Tie.spec (λ c κs. search needs) (λ c κs. search needs) returns)

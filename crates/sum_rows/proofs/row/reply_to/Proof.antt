@@ -13,8 +13,7 @@ use Rattle.sum_rows.specs.Sums.{sumOf}
 use Rattle.sum_rows.specs.Table.{tableReply}
 use Rattle.sum_rows.specs.Row.{rowReply}
 use borrow.Author.Needs.{needs}
-use Rattle.sum_rows.proofs.row.reply_to.Statement.{statement}
-use Rattle.sum_rows.proofs.row.reply_to.Tie as tie
+use Rattle.sum_rows.proofs.row.reply_to as own
 
 of-table : (s s' : Sum) (x x' y y' : Float) (b n : ℕ) (tables : List ℕ) → s ≡ s' → x ≡ x' → y ≡ y' → b ≡ n →
     tableReply s x y (take ((1040 * b + 1040) - 1040 * b) (drop (1040 * b) tables)) ≡ tableReply s' x' y' (take 1040 (drop (1040 * n) tables))
@@ -22,7 +21,7 @@ of-table s s' x x' y y' b n tables p q r e =
     let d : (1040 * b + 1040) - 1040 * b ≡ 1040 = omega arith in
     cc
 
-returns : tie.Need-returns
+returns : own.Tie.Need-returns
 unfolding rowReply
 returns c =
     let b = c .before .before in
@@ -31,7 +30,7 @@ returns c =
     let h : leb (1040 * getD (a .row .now) 0 0 + 1040) (length (a .tables .now)) ≡ false = lt-leb _ _ over in
     rw h (c .refused .ensures)
 
-returns-2 : tie.Need-returns-2
+returns-2 : own.Tie.Need-returns-2
 unfolding rowReply
 returns-2 c =
     let y = c .before .before in
@@ -45,8 +44,8 @@ returns-2 c =
     rw h
     (c .on-table .ensures ∙ of-table _ _ _ _ _ _ _ _ _ sum (y .before .float-at .ensures) (y .float-at2 .ensures) (b .byte-at .ensures))
 
-pub reply-to-spec : {M : Type 1} → statement M
+pub reply-to-spec : {M : Type 1} → own.Statement.statement M
 reply-to-spec =
-    tie.close (tie.spec (λ c κs. search needs) (λ c. search needs) (λ c. search needs) (λ c. search needs) (λ c κs. search needs) returns
+    own.Tie.close (own.Tie.spec (λ c κs. search needs) (λ c. search needs) (λ c. search needs) (λ c. search needs) (λ c κs. search needs) returns
     (λ c κs. search needs) (λ c κs. search needs) (λ c κs. search needs) (λ c κs. search needs) (λ c. search needs) (λ c. search needs)
     (λ c. search needs) (λ c κs. search needs) returns-2)

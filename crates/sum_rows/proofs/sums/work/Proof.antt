@@ -4,17 +4,16 @@ use Rattle.reply.specs.Shape.{numberReply}
 use Rattle.sum_rows.specs.Shape.{twoReply, fourReply}
 use Rattle.sum_rows.specs.Sums.{replyRule}
 use borrow.Author.Needs.{needs}
-use Rattle.sum_rows.proofs.sums.work.Statement.{statement}
-use Rattle.sum_rows.proofs.sums.work.Tie as tie
+use Rattle.sum_rows.proofs.sums.work as own
 
-returns-3 : tie.Need-returns-3
+returns-3 : own.Tie.Need-returns-3
 unfolding replyRule
 returns-3 c = rw (c .before .before .enum-told3 .given .1) (c .number-reply2 .ensures ∙ ap numberReply (c .before .poly-i-powi .ensures))
 
-pub work-spec : {M : Type 1} → statement M
+pub work-spec : {M : Type 1} → own.Statement.statement M
 unfolding replyRule
 work-spec =
-    tie.close (tie.spec (λ c. search needs) (λ c κs. search needs) (λ c. search needs) (λ c κs. search needs) (λ c κs. search needs)
+    own.Tie.close (own.Tie.spec (λ c. search needs) (λ c κs. search needs) (λ c. search needs) (λ c κs. search needs) (λ c κs. search needs)
     (λ c. search needs) (λ c κs. search needs) (λ c κs. search needs) (λ c. search needs) (λ c κs. search needs) (λ c κs. search needs)
     (λ c. search needs) (λ c κs. search needs) (λ c κs. search needs) (λ c. search needs) (λ c κs. search needs) (λ c κs. search needs)
     (λ c. search needs) (λ c κs. search needs) (λ c κs. search needs) (λ c. search needs) (λ c κs. search needs) (λ c κs. search needs)

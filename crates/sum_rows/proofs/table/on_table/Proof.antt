@@ -10,8 +10,7 @@ use Rattle.sum_rows.specs.declared.Sum.{Sum}
 use Rattle.sum_rows.specs.Sums.{replyRule}
 use Rattle.sum_rows.specs.Table.{tableReply}
 use borrow.Author.Needs.{needs}
-use Rattle.sum_rows.proofs.table.on_table.Statement.{statement}
-use Rattle.sum_rows.proofs.table.on_table.Tie as tie
+use Rattle.sum_rows.proofs.table.on_table as own
 
 of-rows : {A : Type 0} (i n : ℕ) (xs ys : List A) → i ≡ n → xs ≡ ys → take i xs ≡ take n ys
 of-rows i n xs ys e f = cc
@@ -19,25 +18,16 @@ of-rows i n xs ys e f = cc
 of-columns : (s : Sum) (vi vj : Float) (is is' js js' : List ℤ) (ns ns' : List Float) → is ≡ is' → js ≡ js' → ns ≡ ns' → replyRule s vi vj is js ns ≡ replyRule s vi vj is' js' ns'
 of-columns s vi vj is is' js js' ns ns' e f g = cc
 
-array-share-prefix-is : tie.Need-array-share-prefix-is
+array-share-prefix-is : own.Tie.Need-array-share-prefix-is
 array-share-prefix-is c = search needs
 
-slice-aggregate-work : tie.Need-slice-aggregate-work
-slice-aggregate-work c = search (needs, length-take-le, array-share-prefix-is (c .before))
-
-array-share-prefix-js : tie.Need-array-share-prefix-js
+array-share-prefix-js : own.Tie.Need-array-share-prefix-js
 array-share-prefix-js c = search needs
 
-slice-aggregate-work-2 : tie.Need-slice-aggregate-work-2
-slice-aggregate-work-2 c = search (needs, length-take-le, array-share-prefix-js (c .before))
-
-array-share-prefix-ns : tie.Need-array-share-prefix-ns
+array-share-prefix-ns : own.Tie.Need-array-share-prefix-ns
 array-share-prefix-ns c = search needs
 
-slice-aggregate-work-3 : tie.Need-slice-aggregate-work-3
-slice-aggregate-work-3 c = search (needs, length-take-le, array-share-prefix-ns (c .before))
-
-returns : tie.Need-returns
+returns : own.Tie.Need-returns
 unfolding tableReply
 returns c =
     let s = c .before .before .before .before in
@@ -48,10 +38,10 @@ returns c =
     (of-rows _ _ _ _ (s .before .rows-in2 .ensures .0) (w .before .wholes-from2 .ensures))
     (of-rows _ _ _ _ (s .rows-in3 .ensures .0) (w .floats-from .ensures))
 
-pub on-table-spec : {M : Type 1} → statement M
+pub on-table-spec : {M : Type 1} → own.Statement.statement M
 on-table-spec =
-    tie.close
-    (tie.spec
+    own.Tie.close
+    (own.Tie.spec
     (λ c κs. search needs) (λ c κs. search needs) (λ c κs. search needs) (λ c κs. search needs) (λ c κs. search needs) (λ c κs. search needs)
-    array-share-prefix-is slice-aggregate-work array-share-prefix-js slice-aggregate-work-2 array-share-prefix-ns slice-aggregate-work-3
+    array-share-prefix-is (λ c. search (needs, length-take-le, array-share-prefix-is (c .before))) array-share-prefix-js (λ c. search (needs, length-take-le, array-share-prefix-js (c .before))) array-share-prefix-ns (λ c. search (needs, length-take-le, array-share-prefix-ns (c .before)))
     (λ c κs. search needs) returns)

@@ -4,13 +4,12 @@ use lib.Ieee.{ofBits}
 use borrow.Author.Needs.{needs}
 use Rattle.common.specs.Decimal.{decimal, whole, scaled}
 use Rattle.volume.specs.Equation.{equationOf}
-use Rattle.volume.proofs.region3_v_subregion_pT.equation.Statement.{statement}
-use Rattle.volume.proofs.region3_v_subregion_pT.equation.Tie as tie
+use Rattle.volume.proofs.region3_v_subregion_pT.equation as own
 
-pub equation-spec : {M : Type 1} → statement M
+pub equation-spec : {M : Type 1} → own.Statement.statement M
 unfolding ofBits decimal whole scaled
 equation-spec =
-    tie.close (tie.spec (λ c. search needs) (λ c. search needs) (λ c. search needs) (λ c. search needs) (λ c. search needs) (λ c. search needs)
+    own.Tie.close (own.Tie.spec (λ c. search needs) (λ c. search needs) (λ c. search needs) (λ c. search needs) (λ c. search needs) (λ c. search needs)
     (λ c. search needs) (λ c. search needs) (λ c. search needs) (λ c. search needs) (λ c. search needs) (λ c. search needs) (λ c. search needs)
     (λ c. search needs) (λ c. search needs) (λ c. search needs) (λ c. search needs) (λ c. search needs) (λ c. search needs) (λ c. search needs)
     (λ c. search needs) (λ c. search needs) (λ c. search needs) (λ c. search needs) (λ c. search needs) (λ c. search needs)

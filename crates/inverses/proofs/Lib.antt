@@ -1,0 +1,9 @@
+pub mod Units
+pub mod Whole
+pub mod Halves
+pub mod Signs
+pub mod Logs
+pub mod Meaning
+pub mod Points
+pub mod Formulas
+pub mod Unique

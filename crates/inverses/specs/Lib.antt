@@ -1,0 +1,5 @@
+pub mod Units
+pub mod Root
+pub mod Log
+pub mod RawLog
+pub mod Formula

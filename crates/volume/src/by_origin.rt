@@ -1,0 +1,45 @@
+// The volume by its origin, at any p and t: with its density, as a record and a row of the column run take it, or alone.
+use crate::StateAnswer;
+use crate::region3_v_subregion_pT::equation;
+use crate::region3_v_subregion_pT::volume_by;
+use common::Answer;
+use common::DC_WATER;
+use common::Kelvin;
+use common::MPa;
+use common::settle;
+use record::Origin;
+use record::density;
+ghost use mathlib.Core.Path.{_≡_};
+ghost use Rattle.common.specs.Outcome.{check};
+ghost use Rattle.common.specs.Answer.{paper};
+ghost use Rattle.volume.specs.State.{paperState, stateOf, stateBy, volumeFrom};
+
+// A volume with its density.
+fn found(o: Origin, v: f64) -> StateAnswer
+    ensures { λ r. ⌜ paperState r ≡ stateOf o (check v) ⌝ }
+{
+    match density(v) {
+        Answer::Value(d) => StateAnswer::Value(o, v, d),
+        Answer::Refused(k) => StateAnswer::Refused(k),
+    }
+}
+
+// The volume in m3/kg with its density.
+pub fn found_by(o: Origin, p: MPa, t: Kelvin) -> StateAnswer
+    ensures { λ r. ⌜ paperState r ≡ stateBy o (p .0) (t .0) ⌝ }
+{
+    match o {
+        Origin::Subregion(l) => found(o, volume_by(equation(l), l, p.0, t.0)),
+        Origin::Critical => found(o, 1.0 / DC_WATER),
+    }
+}
+
+// The volume alone, whose density is not looked at.
+pub fn volume_from(o: Origin, p: MPa, t: Kelvin) -> Answer
+    ensures { λ r. ⌜ paper r ≡ volumeFrom o (p .0) (t .0) ⌝ }
+{
+    match o {
+        Origin::Subregion(l) => settle(volume_by(equation(l), l, p.0, t.0)),
+        Origin::Critical => settle(1.0 / DC_WATER),
+    }
+}
