@@ -12,6 +12,11 @@ void *memset(void *to, int byte, r3_size n) {
     return to;
 }
 
+void *memcpy(void *to, const void *from, r3_size n) {
+    for (r3_size i = 0; i < n; i++) ((volatile r3_byte *)to)[i] = ((const r3_byte *)from)[i];
+    return to;
+}
+
 static void put(const char *text, r3_size n) {
 #if defined(__x86_64__)
     long number = 1;
