@@ -1,3 +1,3 @@
 pub mod Volumes
 pub mod Backward
-pub mod Told
+pub mod NumberAndValue

@@ -16,11 +16,11 @@ abbrev Numbered : {A : Type 0} → Outcome A → Type 0
 Numbered (value x) = Unit
 Numbered (refused k) = k ≡ 0 → ⊥
 
-pub told-apart : {A : Type 0} (none : A) (x y : Outcome A) → Numbered x → Numbered y → numberAndValue none x ≡ numberAndValue none y → x ≡ y
-told-apart none (value x) (value y) h k e = ap value (ap (λ p. p .1) e)
-told-apart none (value x) (refused j) h k e = absurd (k (sym (ap (λ p. p .0) e)))
-told-apart none (refused i) (value y) h k e = absurd (h (ap (λ p. p .0) e))
-told-apart none (refused i) (refused j) h k e = ap refused (ap (λ p. p .0) e)
+pub outcome-by-both : {A : Type 0} (none : A) (x y : Outcome A) → Numbered x → Numbered y → numberAndValue none x ≡ numberAndValue none y → x ≡ y
+outcome-by-both none (value x) (value y) h k e = ap value (ap (λ p. p .1) e)
+outcome-by-both none (value x) (refused j) h k e = absurd (k (sym (ap (λ p. p .0) e)))
+outcome-by-both none (refused i) (value y) h k e = absurd (h (ap (λ p. p .0) e))
+outcome-by-both none (refused i) (refused j) h k e = ap refused (ap (λ p. p .0) e)
 
 not-0 : (k : Refusal) → numberOf k ≡ 0 → ⊥
 not-0 NotFinite e = omega arith
@@ -38,5 +38,5 @@ numbered (Value x) = tt
 numbered (Refused k) = not-0 k
 
 -- so a contract on an answer's number and value, of a rule that refuses with no 0, is the contract on its outcome
-pub told-paper : (r : Answer) (o : Outcome Float) → Numbered o → numberAndValue zeroF (paper r) ≡ numberAndValue zeroF o → paper r ≡ o
-told-paper r o = told-apart zeroF (paper r) o (numbered r)
+pub paper-by-both : (r : Answer) (o : Outcome Float) → Numbered o → numberAndValue zeroF (paper r) ≡ numberAndValue zeroF o → paper r ≡ o
+paper-by-both r o = outcome-by-both zeroF (paper r) o (numbered r)
