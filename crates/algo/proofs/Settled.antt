@@ -9,6 +9,7 @@ use lib.Ieee.{Float, nan, inf, fin, binary64, add, mul, div, ofInt}
 use Rattle.common.specs.Outcome.{Outcome, value, refused, finite, check, then, inside, orNan, zeroF}
 use Rattle.common.specs.Sum.{total}
 use Rattle.common.proofs.Laws.{check-kept, inside-check}
+use Rattle.common.proofs.Numbers.{Settled, check-settled}
 use Rattle.rules.specs.Power.{powerRule}
 use Rattle.rules.specs.RawPower.{lookedPower}
 use Rattle.rules.proofs.Powers.{power-looked}
@@ -19,14 +20,6 @@ use Rattle.algo.specs.declared.Order.{Order}
 use Rattle.algo.specs.declared.Order.the-variants.{Zero, One, Two}
 use Rattle.algo.specs.declared.Share.{Share}
 use Rattle.algo.specs.declared.Share.the-variants.{Whole, I, IAgain, J, Ii, Ij, Jj}
-
-abbrev pub Settled : Outcome Float → Type 0
-Settled o = check (orNan o) ≡ o
-
-pub check-settled : (x : Float) → Settled (check x)
-check-settled nan = refl
-check-settled (inf s) = refl
-check-settled (fin s m e) = refl
 
 finite-of : (x : Float) → check x ≡ value x → finite x ≡ true
 finite-of nan h = cc

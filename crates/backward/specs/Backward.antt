@@ -10,15 +10,15 @@ use Rattle.common.specs.Decimal.{plus, minus, whole, negative}
 use Rattle.common.specs.Constant.{SC-WATER}
 use Rattle.common.specs.Range.{hsBox, phBox, psBox}
 use Rattle.record.specs.State.{pressureOf, temperatureOf, densityOf, volumeOf}
-use Rattle.backward.specs.Equation.{worked}
+use Rattle.backward_equations.specs.Equation.{worked}
 use Rattle.backward.specs.declared.Side.{Side}
 use Rattle.backward.specs.declared.Side.the-variants.{A, B}
 use Rattle.backward.specs.declared.SideAnswer.{SideAnswer}
 use Rattle.backward.specs.declared.SideAnswer.the-variants as sides
 use Rattle.backward.specs.declared.TvdAnswer.{TvdAnswer}
 use Rattle.backward.specs.declared.TvdAnswer.the-variants as founds
-use Rattle.backward.specs.declared.Equation.{Equation}
-use Rattle.backward.specs.declared.Equation.the-variants.{T3aPh, T3bPh, V3aPh, V3bPh, T3aPs, T3bPs, V3aPs, V3bPs, P3aHs, P3bHs}
+use Rattle.backward_equations.specs.declared.Equation.{Equation}
+use Rattle.backward_equations.specs.declared.Equation.the-variants.{T3aPh, T3bPh, V3aPh, V3bPh, T3aPs, T3bPs, V3aPs, V3bPs, P3aHs, P3bHs}
 
 abbrev pub n1 : Outcome Float
 n1 = value (plus 15 0_201464004206875 (pos 4))

@@ -1,10 +1,10 @@
 // Temperature and volume from (p,h) and (p,s): S03rev. The side is chosen once (`side_ph`, `side_s`), then T and v are worked on it: both with
 // the density for a record (`found_ph`, `found_ps`), or one of them for a call of its own.
-use crate::Equation;
 use crate::Side;
 use crate::SideAnswer;
 use crate::TvdAnswer;
-use crate::pattern::raw_worked;
+use backward_equations::Equation;
+use backward_equations::raw_worked;
 use common::Answer;
 use common::KJPerKg;
 use common::KJPerKgK;
@@ -22,7 +22,7 @@ use record::settle_v;
 ghost use mathlib.Core.Path.{_≡_};
 ghost use Rattle.common.specs.Outcome.{check};
 ghost use Rattle.common.specs.Answer.{paper};
-ghost use Rattle.backward.specs.Equation.{worked};
+ghost use Rattle.backward_equations.specs.Equation.{worked};
 ghost use Rattle.backward.specs.Backward.{h3ab, paperSide, ofSide, side-ph, side-s, paperTvd, tvdOf, tvd-ph, tvd-ps, ph2T-reg3Rule, ph2v-reg3Rule, ps2T-reg3Rule, ps2v-reg3Rule};
 
 // Table 2, equation 1: the enthalpy in kJ/kg that divides 3a from 3b, nested as in the Rust.

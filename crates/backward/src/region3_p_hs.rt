@@ -1,7 +1,7 @@
 // Pressure from (h,s): S04rev.
-use crate::Equation;
 use crate::region3_Tv_phps::raw_on;
 use crate::region3_Tv_phps::side_s;
+use backward_equations::Equation;
 use common::Answer;
 use common::KJPerKg;
 use common::KJPerKgK;

@@ -31,7 +31,8 @@ use common::OZ;
 ghost use mathlib.Core.Path.{_≡_};
 ghost use Rattle.common.specs.Answer.{paper};
 ghost use Rattle.properties.specs.Td.{Td2v, Td2h, Td2s, Td2u, Td2cv, Td2cp, Td2w, statePressure};
-ghost use Rattle.extended.specs.Ext.{Td2f, Td2g, Td2z, Td2ks, Td2kt, Td2ec, Td2joule, Td2iJTC, Td2pc, Td2dvdpct, Td2dpdtcv, Td2dvdtcp, Td2e, Td2batap, Td2fi, Td2fu, Td2alfap};
+ghost use Rattle.extended.specs.Ext.{Td2f, Td2g, Td2kt, Td2ec, Td2joule, Td2iJTC, Td2dvdpct, Td2dpdtcv, Td2dvdtcp, Td2e, Td2fi};
+ghost use Rattle.extended_with_p.specs.WithP.{Td2z, Td2ks, Td2pc, Td2batap, Td2fu, Td2alfap};
 ghost use Rattle.by_number.specs.Property.{called};
 
 // Pressure, MPa. R7-97 table 31; table 33 has 25.5837018 at (650, 500). 4 where it lies outside its range.

@@ -11,7 +11,7 @@ use mir.Facts.{toZ-ofZ}
 use borrow.Author.Tests.{ne-eqb}
 use Rattle.common.specs.Outcome.{Outcome, check, then}
 use Rattle.common.proofs.Arms.{Rest, NoneOf, none-of}
-use Rattle.helmholtz.specs.Number.{Number}
+use Rattle.common.specs.Number.{Number}
 use Rattle.properties.specs.Td.{Formula, Td2cp, Td2w}
 use Rattle.properties.specs.Together.{CpAndW}
 use Rattle.properties.proofs.Together.{cp-half, w-half}

@@ -9,7 +9,8 @@ use lib.Ieee.{Float}
 use Rattle.common.specs.Outcome.{Outcome, value, refused, check, then}
 use Rattle.common.specs.Range.{TdBox}
 use Rattle.properties.specs.Td.{Formula, Td2v, Td2h, Td2s, Td2u, Td2cv, Td2cp, Td2w, statePressure}
-use Rattle.extended.specs.Ext.{Td2f, Td2g, Td2z, Td2ks, Td2kt, Td2ec, Td2joule, Td2iJTC, Td2pc, Td2dvdpct, Td2dpdtcv, Td2dvdtcp, Td2e, Td2batap, Td2fi, Td2fu, Td2alfap}
+use Rattle.extended.specs.Ext.{Td2f, Td2g, Td2kt, Td2ec, Td2joule, Td2iJTC, Td2dvdpct, Td2dpdtcv, Td2dvdtcp, Td2e, Td2fi}
+use Rattle.extended_with_p.specs.WithP.{Td2z, Td2ks, Td2pc, Td2batap, Td2fu, Td2alfap}
 
 -- the checks 1, 2, 3 of T and d, then the steps of o
 unfoldable pub boxed : {A : Type 0} → Float → Float → Outcome A → Outcome A

@@ -1,5 +1,7 @@
 pub mod Laws
 pub mod Formulas
+pub mod Numbers
+pub mod Ranges
 pub mod Sums
 pub mod Calls
 pub mod Arms

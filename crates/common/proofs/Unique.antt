@@ -19,6 +19,9 @@ settle-one κs a e x y p q = same-answer _ x y p q
 pub or-nan-one : One 0 common.or_nan.Kinds.ps common.or_nan.Kinds.r common.or_nan.Reads.Post
 or-nan-one κs a e x y p q = p ∙ sym q
 
+pub finite-or-nan-one : One 0 common.finite_or_nan.Kinds.ps common.finite_or_nan.Kinds.r common.finite_or_nan.Reads.Post
+finite-or-nan-one κs a e x y p q = p ∙ sym q
+
 pub number-one : One 0 common.number.Kinds.ps common.number.Kinds.r common.number.Reads.Post
 number-one κs a e x y p q = p ∙ sym q
 

@@ -1,5 +1,6 @@
 pub mod Outcome
 pub mod Formula
+pub mod Number
 pub mod Sum
 pub mod Decimal
 pub mod Constant

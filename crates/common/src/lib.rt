@@ -260,6 +260,13 @@ pub fn or_nan(a: Answer) -> f64
     }
 }
 
+// x, or a NaN where it is not finite.
+pub fn finite_or_nan(x: f64) -> f64
+    ensures { λ r. ⌜ r ≡ orNan (check x) ⌝ }
+{
+    or_nan(settle(x))
+}
+
 pub fn number(k: Refusal) -> u8
     ensures { λ r. ⌜ r ≡ numberOf k ⌝ }
 {
@@ -350,9 +357,15 @@ pub fn check_Td(t: Kelvin, d: KgPerM3) -> Verdict
     check_pair(t.0, T_FROM, T_TO, d.0, D_FROM, D_TO)
 }
 
+// What lies in its range is finite, so a p and a T of the box need not be looked at for that: the column run tests every row here.
 pub fn check_pT(p: MPa, t: Kelvin) -> Verdict
     ensures { λ r. ⌜ paperVerdict r ≡ pTBox (p .0) (t .0) ⌝ }
 {
+    if in_p(p) {
+        if in_t(t) {
+            return Verdict::Accepted;
+        }
+    }
     check_pair(p.0, P_FROM, P_TO, t.0, T_FROM, T_TO)
 }
 

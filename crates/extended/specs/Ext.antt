@@ -1,13 +1,12 @@
--- To believe: the 17 further properties, by the formulas of r3/region3_Td_ext.rs: IAPWS does not define all of them, so the Rust's formulas are the definitions.
--- Where one works p, that p is range-tested there (4), after what the Rust works before it and before what follows.
+-- To believe: the eleven further properties that work no p, by the formulas of r3/region3_Td_ext.rs: IAPWS does not define all of them, so the Rust's
+-- formulas are the definitions.
 use Rattle.common.specs.Formula.{_⊕_, _⊖_, _⊗_, _⊘_, minusOf}
-use mathlib.Core.Bool.{false}
-use Rattle.common.specs.Outcome.{value, then}
-use Rattle.common.specs.Decimal.{decimal, whole, scaled, negative}
+use Rattle.common.specs.Outcome.{value}
+use Rattle.common.specs.Decimal.{decimal, whole}
 use Rattle.common.specs.Constant.{DC-WATER, TT}
 use Rattle.rules.specs.Formula.{exponentialOf}
 use Rattle.helmholtz.specs.Hfe.{Reduced, phi, phi-delta, phi-deltadelta, phi-tau, phi-tautau, phi-deltatau}
-use Rattle.properties.specs.Td.{Formula, R, reducedDensity, inverseTemperature, Td2v, Td2cp, Td2w, statePressure}
+use Rattle.properties.specs.Td.{Formula, R, reducedDensity, inverseTemperature, Td2v, Td2cp}
 
 -- φ_δ - τ φ_δτ and 2 φ_δ + δ φ_δδ, which several share
 abbrev pub thermal : Reduced
@@ -83,29 +82,3 @@ Td2e T d =
 -- OFI, the fugacity coefficient as the Rust has it
 unfoldable pub Td2fi : Formula
 Td2fi T d = exponentialOf (Td2g T d ⊘ R ⊘ T)
-
--- ---- with p
-
--- OZ, the compressibility factor: v, then p
-unfoldable pub Td2z : Formula
-Td2z T d = then (Td2v T d) (λ v. then (statePressure T d) (λ p. value (whole 1000) ⊗ value p ⊗ value v ⊘ R ⊘ T))
-
--- OKS, the isentropic exponent: w, then p
-unfoldable pub Td2ks : Formula
-Td2ks T d = then (Td2w T d) (λ w. then (statePressure T d) (λ p. value (scaled false 1 0 (negative 6)) ⊗ value w ⊗ value w ⊗ d ⊘ value p))
-
--- OBETAP, the isothermal stress coefficient, kg/m3: kt, then p
-unfoldable pub Td2batap : Formula
-Td2batap T d = then (Td2kt T d) (λ kt. then (statePressure T d) (λ p. d ⊘ (value p ⊗ value kt)))
-
--- OFU, the fugacity as the Rust has it, MPa: fi, then p
-unfoldable pub Td2fu : Formula
-Td2fu T d = then (Td2fi T d) (λ fi. then (statePressure T d) (λ p. value p ⊗ value fi))
-
--- OPC, the isochoric pressure coefficient, 1/K: p first
-unfoldable pub Td2pc : Formula
-Td2pc T d = then (statePressure T d) (λ p. value (whole 1) ⊘ value p ⊗ Td2dpdtcv T d)
-
--- OALFAP, the relative pressure coefficient, 1/K: p first
-unfoldable pub Td2alfap : Formula
-Td2alfap T d = then (statePressure T d) (λ p. Td2ec T d ⊘ value p ⊘ Td2kt T d)

@@ -1,4 +1,4 @@
-// The 17 properties beyond table 31 at a temperature and a density, by the Rust's formulas. The checks of the box are the callers'.
+// The eleven properties beyond table 31 that work no p, at a temperature and a density, by the Rust's formulas. The checks of the box are the callers'.
 mod region3_Td_ext;
 
 pub use region3_Td_ext::raw_dpdtcv;
@@ -12,9 +12,3 @@ pub use region3_Td_ext::raw_g;
 pub use region3_Td_ext::raw_iJTC;
 pub use region3_Td_ext::raw_joule;
 pub use region3_Td_ext::raw_kt;
-pub use region3_Td_ext::state_alfap;
-pub use region3_Td_ext::state_batap;
-pub use region3_Td_ext::state_fu;
-pub use region3_Td_ext::state_ks;
-pub use region3_Td_ext::state_pc;
-pub use region3_Td_ext::state_z;

@@ -19,8 +19,8 @@ use Rattle.algo.specs.Raw.{Summed, SharesSummed, rawDivided, gate, covers}
 use Rattle.algo.proofs.Sums.{slope-ends, share-ends}
 use Rattle.algo.proofs.Settled.{slope-settled, share-settled}
 use Rattle.common.specs.Formula.{Raw}
-use Rattle.helmholtz.specs.Number.{Number}
-use Rattle.helmholtz.proofs.Numbers.{settled-number}
+use Rattle.common.specs.Number.{Number}
+use Rattle.common.proofs.Numbers.{settled-number}
 use Rattle.printed.specs.Table30.{table30}
 use Rattle.helmholtz.specs.Hfe.{slope, share}
 

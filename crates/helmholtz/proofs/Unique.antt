@@ -1,11 +1,8 @@
 -- Each contract admits one answer. The theorems are about the contracts' own readings, `Reads.Post`, and not about a copy of them.
 use mathlib.Core.Path.{sym, _∙_}
 use Rattle.common.proofs.Same.{One}
-use Rattle.helmholtz.proofs.Numbers.{one-number}
+use Rattle.common.proofs.Numbers.{one-number}
 use Rattle.helmholtz.proofs as own
-
-pub finite-or-nan-one : One 0 own.region3_hfe.finite_or_nan.Kinds.ps own.region3_hfe.finite_or_nan.Kinds.r own.region3_hfe.finite_or_nan.Reads.Post
-finite-or-nan-one κs a e x y p q = p ∙ sym q
 
 pub phi-reg3-one : One 0 own.region3_hfe.phi_reg3.Kinds.ps own.region3_hfe.phi_reg3.Kinds.r own.region3_hfe.phi_reg3.Reads.Post
 phi-reg3-one κs a e x y p q = one-number p q

@@ -5,7 +5,6 @@ mod region3_hfe;
 pub use region3_hfe::DeltaTau;
 pub use region3_hfe::PhiTau;
 pub use region3_hfe::Slopes;
-pub use region3_hfe::finite_or_nan;
 pub use region3_hfe::phi_delta_reg3;
 pub use region3_hfe::phi_deltadelta_reg3;
 pub use region3_hfe::phi_deltatau_reg3;

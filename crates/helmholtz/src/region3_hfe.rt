@@ -4,7 +4,7 @@
 use algo::Order;
 use algo::Share;
 use algo::gated;
-use common::is_finite;
+use common::finite_or_nan;
 use common::over;
 use inverses::raw_logarithm;
 use joint::Pair;
@@ -14,8 +14,8 @@ use joint::joint_sums;
 use powers::fill_powers;
 use slopes::slope_sum;
 ghost use mathlib.Core.Path.{_≡_};
-ghost use Rattle.common.specs.Outcome.{check, orNan};
-ghost use Rattle.helmholtz.specs.Number.{Number};
+ghost use Rattle.common.specs.Outcome.{check};
+ghost use Rattle.common.specs.Number.{Number};
 ghost use Rattle.helmholtz.specs.Hfe.{slope, share, phi, phi-delta, phi-deltadelta, phi-tau, phi-tautau, phi-deltatau, joint-phi, joint-tau, joint-delta, four-delta, four-deltadelta, four-deltatau, four-tautau};
 
 // Table 30, row 1, and rows 2 to 40 by column.
@@ -189,16 +189,6 @@ fn four(delta: f64, tau: f64) -> Slopes
         deltatau: finished(Share::Ij, delta, tau, p.ij),
         tautau: finished(Share::Jj, delta, tau, p.jj),
     }
-}
-
-// x, or a NaN where it is not finite.
-pub fn finite_or_nan(x: f64) -> f64
-    ensures { λ r. ⌜ r ≡ orNan (check x) ⌝ }
-{
-    if is_finite(x) {
-        return x;
-    }
-    0.0 / 0.0
 }
 
 pub fn phi_reg3(delta: f64, tau: f64) -> f64

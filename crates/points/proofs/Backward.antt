@@ -12,7 +12,7 @@ use Rattle.rules.specs.Power.{powerRule, byBits, lowest}
 use Rattle.algo.specs.Table.{sumRule}
 use Rattle.printed.specs.Backward.{table-t3a-ph, table-t3b-ph, table-v3a-ph, table-v3b-ph, table-t3a-ps, table-t3b-ps, table-v3a-ps, table-v3b-ps, table-p3a-hs, table-p3b-hs}
 use Rattle.common.proofs.Printed.{Value, prints, agrees}
-use Rattle.backward.specs.Equation.{worked, workedBy}
+use Rattle.backward_equations.specs.Equation.{worked, workedBy}
 use Rattle.backward.specs.Backward.{h3ab, side-ph, side-s, ph2T-reg3Rule, ph2v-reg3Rule, ps2T-reg3Rule, ps2v-reg3Rule, hs2p-reg3Rule}
 use Rattle.backward.specs.declared.Side.the-variants.{A, B}
 

@@ -15,7 +15,7 @@ use Rattle.algo.specs.declared.Share.{Share}
 use Rattle.algo.specs.declared.Share.the-variants.{I, Ii, Ij, Jj}
 use Rattle.algo.specs.Joint.{shareRule}
 use Rattle.algo.proofs.Settled.{share-settled}
-use Rattle.helmholtz.specs.Number.{Number}
+use Rattle.common.specs.Number.{Number}
 use Rattle.printed.specs.Table30.{n1, table30}
 use Rattle.helmholtz.specs.Hfe.{share, four-delta, four-deltadelta}
 use Rattle.properties.specs.Td.{R, Sums, sums, cpOver, wOver, reducedDensity, inverseTemperature, Td2cp, Td2w}

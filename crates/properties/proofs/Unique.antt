@@ -4,9 +4,9 @@ use lib.Ieee.{Float}
 use borrow.Fn.Kinds.{Out}
 use Rattle.common.specs.Outcome.{check}
 use Rattle.common.proofs.Same.{One, same-answer}
-use Rattle.helmholtz.specs.Number.{Number}
+use Rattle.common.specs.Number.{Number}
 use Rattle.properties.specs.Td.{Formula, Td2v, Td2p, Td2u, Td2s, Td2h, Td2cv}
-use Rattle.helmholtz.proofs.Numbers.{one-number}
+use Rattle.common.proofs.Numbers.{one-number}
 use Rattle.properties.proofs as own
 
 pub lost-or-one : One 0 own.lost.lost_or.Kinds.ps own.lost.lost_or.Kinds.r own.lost.lost_or.Reads.Post

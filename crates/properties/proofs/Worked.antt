@@ -4,7 +4,7 @@ use lib.Ieee.{Float}
 use Rattle.common.specs.Outcome.{Outcome, check}
 use Rattle.common.specs.Formula.{Raw}
 use Rattle.helmholtz.specs.declared.region3_hfe.Slopes.{Slopes}
-use Rattle.helmholtz.specs.Number.{Number}
+use Rattle.common.specs.Number.{Number}
 use Rattle.helmholtz.specs.Hfe.{four-delta, four-deltadelta, four-deltatau, four-tautau}
 use Rattle.properties.specs.Td.{Sums, sums, cpOver, wOver, reducedDensity, inverseTemperature, Td2cp, Td2w}
 use Rattle.properties.specs.Together.{checked, Td2cp-w}

@@ -19,7 +19,8 @@ use Rattle.algo.specs.Joint.{shareRule}
 use Rattle.printed.specs.Table30.{table30}
 use Rattle.helmholtz.specs.Hfe.{slope, share, phi, phi-delta, phi-deltadelta, joint-phi, joint-delta, four-delta, four-deltadelta}
 use Rattle.properties.specs.Td.{Td2v, Td2p, Td2h, Td2u, Td2s, Td2cv, Td2cp, Td2w, statePressure}
-use Rattle.extended.specs.Ext.{Td2f, Td2g, Td2z, Td2ks, Td2kt, Td2ec, Td2joule, Td2iJTC, Td2pc, Td2dvdpct, Td2dpdtcv, Td2dvdtcp, Td2e, Td2batap, Td2fi, Td2fu, Td2alfap}
+use Rattle.extended.specs.Ext.{Td2f, Td2g, Td2kt, Td2ec, Td2joule, Td2iJTC, Td2dvdpct, Td2dpdtcv, Td2dvdtcp, Td2e, Td2fi}
+use Rattle.extended_with_p.specs.WithP.{Td2z, Td2ks, Td2pc, Td2batap, Td2fu, Td2alfap}
 use Rattle.common.proofs.Printed.{Value, prints, printsMinus, agrees}
 use Rattle.by_number.specs.Property.{boxed, propertyRule}
 

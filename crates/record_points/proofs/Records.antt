@@ -26,7 +26,7 @@ use Rattle.origin.specs.Origin.{originAt, originRule}
 use Rattle.volume.specs.State.{State, stateBy}
 use Rattle.volume_at.specs.Volumes.{stateAt, foundRule, pT2v-reg3Rule}
 use Rattle.printed.specs.Backward.{table-t3a-ph, table-t3b-ph, table-v3a-ph, table-v3b-ph, table-t3a-ps, table-t3b-ps, table-v3a-ps, table-v3b-ps, table-p3a-hs, table-p3b-hs}
-use Rattle.backward.specs.Equation.{worked, workedBy}
+use Rattle.backward_equations.specs.Equation.{worked, workedBy}
 use Rattle.backward.specs.Backward.{h3ab, side-ph, hs2p-reg3Rule, tvd-ph, tvd-ps}
 use Rattle.printed.specs.Table30.{table30}
 use Rattle.helmholtz.specs.Hfe.{slope, phi, phi-delta, phi-deltadelta, share, joint-phi, joint-delta, four-delta, four-deltadelta}

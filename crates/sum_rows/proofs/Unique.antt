@@ -3,18 +3,6 @@ use mathlib.Core.Path.{sym, _∙_}
 use Rattle.common.proofs.Same.{One}
 use Rattle.sum_rows.proofs as own
 
-pub two-numbers-one : One 0 own.shape.two_numbers.Kinds.ps own.shape.two_numbers.Kinds.r own.shape.two_numbers.Reads.Post
-two-numbers-one κs a e x y p q = p ∙ sym q
-
-pub four-numbers-one : One 0 own.shape.four_numbers.Kinds.ps own.shape.four_numbers.Kinds.r own.shape.four_numbers.Reads.Post
-four-numbers-one κs a e x y p q = p ∙ sym q
-
-pub sum-of-one : One 0 own.sums.sum_of.Kinds.ps own.sums.sum_of.Kinds.r own.sums.sum_of.Reads.Post
-sum-of-one κs a e x y p q = p ∙ sym q
-
-pub work-one : One 3 own.sums.work.Kinds.ps own.sums.work.Kinds.r own.sums.work.Reads.Post
-work-one κs a e x y p q = p ∙ sym q
-
 pub on-table-one : One 1 own.table.on_table.Kinds.ps own.table.on_table.Kinds.r own.table.on_table.Reads.Post
 on-table-one κs a e x y p q = p ∙ sym q
 

@@ -1,4 +1,2 @@
-pub mod Shape
-pub mod Sums
 pub mod Table
 pub mod Row

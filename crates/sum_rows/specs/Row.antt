@@ -7,7 +7,7 @@ use lib.ListN.{length, getD, take, drop}
 use Rattle.buffer.specs.Bytes.{floatIn}
 use Rattle.reply.specs.declared.Reply.{Reply}
 use Rattle.reply.specs.Shape.{refusedBy}
-use Rattle.sum_rows.specs.Sums.{sumOf}
+use Rattle.sums_by_number.specs.Sums.{sumOf}
 use Rattle.sum_rows.specs.Table.{tableReply}
 
 -- a table that does not exist is refused as a sum that does not

@@ -9,8 +9,8 @@ use lib.ListN.{getD, take}
 use lib.Ieee.{Float}
 use Rattle.buffer.specs.Bytes.{joined, intIn, floatIn}
 use Rattle.reply.specs.declared.Reply.{Reply}
-use Rattle.sum_rows.specs.declared.Sum.{Sum}
-use Rattle.sum_rows.specs.Sums.{replyRule}
+use Rattle.sums_by_number.specs.declared.Sum.{Sum}
+use Rattle.sums_by_number.specs.Sums.{replyRule}
 
 -- the length of a column, 64 at most
 abbrev pub rowsIn : List ℕ → ℕ → ℕ

@@ -1,11 +1,11 @@
 // A row of 24 bytes: which table and which sum, then from byte 8 on vi and vj.
-use crate::sums::UNKNOWN;
-use crate::sums::sum_of;
 use crate::table::on_table;
 use buffer::byte_at;
 use buffer::float_at;
 use reply::Reply;
 use reply::refused;
+use sums_by_number::UNKNOWN;
+use sums_by_number::sum_of;
 ghost use mathlib.Core.Path.{_≡_};
 ghost use Rattle.sum_rows.specs.Row.{rowReply};
 

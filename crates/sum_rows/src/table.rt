@@ -1,10 +1,10 @@
 // A sum on a stored table of 1040 bytes.
-use crate::Sum;
-use crate::sums::work;
 use buffer::byte_at;
 use buffer::float_at;
 use buffer::int_at;
 use reply::Reply;
+use sums_by_number::Sum;
+use sums_by_number::work;
 ghost use mathlib.Core.Path.{_≡_};
 ghost use Prim.Native.Nat.{_≤_};
 ghost use Rattle.sum_rows.specs.Table.{rowsIn, wholes, floats, tableReply};

@@ -4,7 +4,7 @@ use mathlib.Core.Bool.{true, cond}
 use lib.Ieee.{Float, nan, inf, fin}
 use Rattle.common.specs.Outcome.{Outcome, value, refused, finite, check, then}
 use Rattle.common.specs.Formula.{lostOr, Raw}
-use Rattle.helmholtz.specs.Number.{Number}
+use Rattle.common.specs.Number.{Number}
 use Rattle.properties.specs.Together.{Td2cp-w}
 use Rattle.properties.proofs.Together.{cp-number, w-number}
 use Rattle.td_record.specs.Steps.{recordWith, recordAfter, recordSteps}

@@ -24,22 +24,26 @@ fn found(o: Origin, v: f64) -> StateAnswer
     }
 }
 
+// The volume in m3/kg, raw. It stands apart, so that what asks for it is short enough to go where it is called.
+fn raw_from(o: Origin, p: f64, t: f64) -> f64
+    ensures { λ r. ⌜ check r ≡ volumeFrom o p t ⌝ }
+{
+    match o {
+        Origin::Subregion(l) => volume_by(equation(l), l, p, t),
+        Origin::Critical => 1.0 / DC_WATER,
+    }
+}
+
 // The volume in m3/kg with its density.
 pub fn found_by(o: Origin, p: MPa, t: Kelvin) -> StateAnswer
     ensures { λ r. ⌜ paperState r ≡ stateBy o (p .0) (t .0) ⌝ }
 {
-    match o {
-        Origin::Subregion(l) => found(o, volume_by(equation(l), l, p.0, t.0)),
-        Origin::Critical => found(o, 1.0 / DC_WATER),
-    }
+    found(o, raw_from(o, p.0, t.0))
 }
 
 // The volume alone, whose density is not looked at.
 pub fn volume_from(o: Origin, p: MPa, t: Kelvin) -> Answer
     ensures { λ r. ⌜ paper r ≡ volumeFrom o (p .0) (t .0) ⌝ }
 {
-    match o {
-        Origin::Subregion(l) => settle(volume_by(equation(l), l, p.0, t.0)),
-        Origin::Critical => settle(1.0 / DC_WATER),
-    }
+    settle(raw_from(o, p.0, t.0))
 }

@@ -1,12 +1,13 @@
 -- `backward::raw_on`: by the side.
+use mathlib.Core.Path.{sym}
 use borrow.Author.Needs.{needs}
 use Rattle.backward.proofs.region3_Tv_phps.raw_on as own
 
 returns : own.Tie.Need-returns
-returns c = rw (c .before .enum-told .given .1) (c .raw-worked .ensures)
+returns c = rw (c .before .enum-told .given .1) (sym (c .raw-worked .ensures .raw .is))
 
 returns-2 : own.Tie.Need-returns-2
-returns-2 c = rw (c .before .enum-told2 .given .1) (c .raw-worked2 .ensures)
+returns-2 c = rw (c .before .enum-told2 .given .1) (sym (c .raw-worked2 .ensures .raw .is))
 
 pub raw-on-spec : {M : Type 1} → own.Statement.statement M
 raw-on-spec = own.Tie.close (own.Tie.spec (λ c. search needs) (λ c κs. search needs) (λ c. search needs) (λ c κs. search needs) returns returns-2)

@@ -7,7 +7,7 @@ use Rattle.common.specs.Decimal.{decimal, scaled}
 use Rattle.helmholtz.specs.Hfe.{phi-delta, phi-deltatau}
 use Rattle.extended.specs.Ext.{Td2dpdtcv}
 use Rattle.helmholtz.proofs.Steps.{R}
-use Rattle.helmholtz.proofs.Numbers.{tested}
+use Rattle.common.proofs.Numbers.{tested}
 use Rattle.extended.proofs.region3_Td_ext.raw_dpdtcv as own
 
 returns : own.Tie.Need-returns

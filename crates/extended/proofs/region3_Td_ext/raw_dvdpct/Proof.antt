@@ -7,7 +7,7 @@ use Rattle.common.specs.Decimal.{decimal, whole, scaled}
 use Rattle.helmholtz.specs.Hfe.{phi-delta, phi-deltadelta}
 use Rattle.extended.specs.Ext.{Td2dvdpct}
 use Rattle.helmholtz.proofs.Steps.{R, ρc}
-use Rattle.helmholtz.proofs.Numbers.{tested}
+use Rattle.common.proofs.Numbers.{tested}
 use Rattle.extended.proofs.region3_Td_ext.raw_dvdpct as own
 
 returns : own.Tie.Need-returns

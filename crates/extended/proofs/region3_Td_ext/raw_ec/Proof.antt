@@ -2,7 +2,7 @@
 use Rattle.common.proofs.Formulas.{raw-check, _*ʳ_}
 use borrow.Author.Needs.{needs}
 use Rattle.extended.specs.Ext.{Td2ec}
-use Rattle.helmholtz.proofs.Numbers.{tested}
+use Rattle.common.proofs.Numbers.{tested}
 use Rattle.extended.proofs.region3_Td_ext.raw_ec as own
 
 returns : own.Tie.Need-returns

@@ -7,7 +7,7 @@ use Rattle.common.specs.Decimal.{decimal, scaled}
 use Rattle.rules.proofs.Formulas.{raw-exponentialOf}
 use Rattle.extended.specs.Ext.{Td2fi}
 use Rattle.helmholtz.proofs.Steps.{R}
-use Rattle.helmholtz.proofs.Numbers.{tested}
+use Rattle.common.proofs.Numbers.{tested}
 use Rattle.extended.proofs.region3_Td_ext.raw_fi as own
 
 returns : own.Tie.Need-returns

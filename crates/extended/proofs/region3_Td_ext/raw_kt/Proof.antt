@@ -2,7 +2,7 @@
 use Rattle.common.proofs.Formulas.{raw-minus, raw-check, _*ʳ_}
 use borrow.Author.Needs.{needs}
 use Rattle.extended.specs.Ext.{Td2kt}
-use Rattle.helmholtz.proofs.Numbers.{tested}
+use Rattle.common.proofs.Numbers.{tested}
 use Rattle.extended.proofs.region3_Td_ext.raw_kt as own
 
 returns : own.Tie.Need-returns

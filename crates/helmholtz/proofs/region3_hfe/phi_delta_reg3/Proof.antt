@@ -5,7 +5,7 @@ use borrow.Author.Needs.{needs}
 use Rattle.common.specs.Decimal.{scaled, plus}
 use Rattle.helmholtz.specs.Hfe.{phi-delta}
 use Rattle.helmholtz.proofs.Steps.{n₁}
-use Rattle.helmholtz.proofs.Numbers.{tested}
+use Rattle.common.proofs.Numbers.{tested}
 use Rattle.helmholtz.proofs.region3_hfe.phi_delta_reg3 as own
 
 returns : own.Tie.Need-returns

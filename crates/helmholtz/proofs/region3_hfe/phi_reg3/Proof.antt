@@ -8,7 +8,7 @@ use Rattle.common.specs.Decimal.{scaled, plus}
 use Rattle.inverses.proofs.Formulas.{raw-logarithmOf}
 use Rattle.helmholtz.specs.Hfe.{phi}
 use Rattle.helmholtz.proofs.Steps.{n₁}
-use Rattle.helmholtz.proofs.Numbers.{tested}
+use Rattle.common.proofs.Numbers.{tested}
 use Rattle.helmholtz.proofs.region3_hfe.phi_reg3 as own
 
 returns : own.Tie.Need-returns

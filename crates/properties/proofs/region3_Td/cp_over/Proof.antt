@@ -5,7 +5,7 @@ use lib.Ieee.{ofBits}
 use borrow.Author.Needs.{needs}
 use Rattle.common.specs.Decimal.{decimal, whole, scaled}
 use Rattle.helmholtz.proofs.Steps.{R}
-use Rattle.helmholtz.proofs.Numbers.{tested}
+use Rattle.common.proofs.Numbers.{tested}
 use Rattle.properties.proofs.region3_Td.cp_over as own
 
 returns : own.Tie.Need-returns

@@ -5,7 +5,7 @@ use mathlib.Core.Path.{refl}
 use borrow.Author.Needs.{needs}
 use Rattle.common.specs.Decimal.{whole, scaled}
 use Rattle.helmholtz.proofs.Steps.{ρc}
-use Rattle.helmholtz.proofs.Numbers.{tested}
+use Rattle.common.proofs.Numbers.{tested}
 use Rattle.properties.proofs.region3_Td.delta_of as own
 
 returns : own.Tie.Need-returns

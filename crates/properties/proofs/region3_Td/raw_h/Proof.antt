@@ -6,7 +6,7 @@ use Rattle.common.specs.Decimal.{decimal, scaled}
 use Rattle.helmholtz.specs.Hfe.{joint-tau, joint-delta}
 use Rattle.properties.specs.Td.{Td2h}
 use Rattle.helmholtz.proofs.Steps.{R}
-use Rattle.helmholtz.proofs.Numbers.{tested}
+use Rattle.common.proofs.Numbers.{tested}
 use Rattle.properties.proofs.region3_Td.raw_h as own
 
 returns : own.Tie.Need-returns

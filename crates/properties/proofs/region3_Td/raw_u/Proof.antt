@@ -6,7 +6,7 @@ use Rattle.common.specs.Decimal.{decimal, scaled}
 use Rattle.helmholtz.specs.Hfe.{phi-tau}
 use Rattle.properties.specs.Td.{Td2u}
 use Rattle.helmholtz.proofs.Steps.{R}
-use Rattle.helmholtz.proofs.Numbers.{tested}
+use Rattle.common.proofs.Numbers.{tested}
 use Rattle.properties.proofs.region3_Td.raw_u as own
 
 returns : own.Tie.Need-returns

@@ -5,7 +5,7 @@ use lib.Ieee.{ofBits}
 use borrow.Author.Needs.{needs}
 use Rattle.common.specs.Decimal.{whole, scaled}
 use Rattle.properties.specs.Td.{Td2v}
-use Rattle.helmholtz.proofs.Numbers.{tested}
+use Rattle.common.proofs.Numbers.{tested}
 use Rattle.properties.proofs.region3_Td.raw_v as own
 
 returns : own.Tie.Need-returns

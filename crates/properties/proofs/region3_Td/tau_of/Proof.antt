@@ -4,7 +4,7 @@ use lib.Ieee.{ofBits}
 use borrow.Author.Needs.{needs}
 use Rattle.common.specs.Decimal.{decimal, scaled}
 use Rattle.helmholtz.proofs.Steps.{Tc}
-use Rattle.helmholtz.proofs.Numbers.{tested}
+use Rattle.common.proofs.Numbers.{tested}
 use Rattle.properties.proofs.region3_Td.tau_of as own
 
 returns : own.Tie.Need-returns

@@ -7,7 +7,7 @@ use borrow.Author.Needs.{needs}
 use Rattle.common.specs.Decimal.{decimal, whole, scaled}
 use Rattle.inverses.proofs.Formulas.{raw-rootOf}
 use Rattle.helmholtz.proofs.Steps.{R}
-use Rattle.helmholtz.proofs.Numbers.{tested}
+use Rattle.common.proofs.Numbers.{tested}
 use Rattle.properties.proofs.region3_Td.w_over as own
 
 returns : own.Tie.Need-returns

@@ -8,8 +8,8 @@ use lib.Dec.{leb}
 use lib.ListN.{length, getD, take, drop}
 use lib.Ieee.{Float}
 use borrow.Author.Tests.{le-leb, lt-leb}
-use Rattle.sum_rows.specs.declared.Sum.{Sum}
-use Rattle.sum_rows.specs.Sums.{sumOf}
+use Rattle.sums_by_number.specs.declared.Sum.{Sum}
+use Rattle.sums_by_number.specs.Sums.{sumOf}
 use Rattle.sum_rows.specs.Table.{tableReply}
 use Rattle.sum_rows.specs.Row.{rowReply}
 use borrow.Author.Needs.{needs}

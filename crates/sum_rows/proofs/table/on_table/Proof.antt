@@ -6,8 +6,8 @@ use lib.IntN.{ℤ}
 use lib.ListN.{take}
 use lib.Seq.{length-take-le}
 use lib.Ieee.{Float}
-use Rattle.sum_rows.specs.declared.Sum.{Sum}
-use Rattle.sum_rows.specs.Sums.{replyRule}
+use Rattle.sums_by_number.specs.declared.Sum.{Sum}
+use Rattle.sums_by_number.specs.Sums.{replyRule}
 use Rattle.sum_rows.specs.Table.{tableReply}
 use borrow.Author.Needs.{needs}
 use Rattle.sum_rows.proofs.table.on_table as own

@@ -1,21 +1,10 @@
--- `volume::volume_from`: by the origin.
-use lib.Ieee.{ofBits, round}
+-- `volume::volume_from`: the volume of its origin, tested once.
+use mathlib.Core.Path.{_∙_}
 use borrow.Author.Needs.{needs}
-use Rattle.common.specs.Decimal.{decimal, whole, scaled}
-use Rattle.volume.specs.Equation.{volumeAt}
-use Rattle.volume.specs.State.{volumeFrom}
 use Rattle.volume.proofs.by_origin.volume_from as own
 
 returns : own.Tie.Need-returns
-unfolding volumeFrom volumeAt
-returns c =
-    rw (c .before .before .before .before .o .given .1, ← (c .before .before .equation .ensures), ← (c .before .volume-by .ensures)) (c .settle .ensures)
-
-returns-2 : own.Tie.Need-returns-2
-unfolding volumeFrom ofBits decimal whole scaled round
-returns-2 c = rw (c .before .enum-told .given .1) (c .settle2 .ensures)
+returns c = c .settle .ensures ∙ c .before .raw-from .ensures
 
 pub volume-from-spec : {M : Type 1} → own.Statement.statement M
-volume-from-spec =
-    own.Tie.close (own.Tie.spec (λ c. search needs) (λ c κs. search needs) (λ c κs. search needs) (λ c κs. search needs) (λ c. search needs)
-    (λ c κs. search needs) returns returns-2)
+volume-from-spec = own.Tie.close (own.Tie.spec (λ c κs. search needs) (λ c κs. search needs) returns)

@@ -1,0 +1,2 @@
+pub mod TestedP
+pub mod Unique
