@@ -1,6 +1,6 @@
 -- What lies in a range whose ends are above 0 is finite: where a range is tested first, a number in it need not be looked at again.
 use mathlib.Core.Path.{_≡_, refl, sym, subst}
-use mathlib.Core.Bool.{true, false}
+use mathlib.Core.Bool.{true}
 use lib.Dec.{T}
 use lib.Ieee.{Float, nan, inf, fin, le}
 use lib.Ieee.Fits.{and-l, and-r}
