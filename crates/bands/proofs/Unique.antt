@@ -1,4 +1,5 @@
 -- Each contract admits one answer. Assumes nothing.
+use mathlib.Core.Path.{sym, _∙_}
 use Rattle.common.proofs.Same.{One}
 use Rattle.subregion.proofs.Unique.{same-choice}
 use Rattle.bands.proofs as own
@@ -13,7 +14,7 @@ pub band-cdef-one : One 0 own.band_cdef.Kinds.ps own.band_cdef.Kinds.r own.band_
 band-cdef-one κs a e x y p q = same-choice _ x y p q
 
 pub band-chijk-one : One 0 own.band_chijk.Kinds.ps own.band_chijk.Kinds.r own.band_chijk.Reads.Post
-band-chijk-one κs a e x y p q = same-choice _ x y p q
+band-chijk-one κs a e x y p q = p ∙ sym q
 
 pub band-clmnopjk-one : One 0 own.band_clmnopjk.Kinds.ps own.band_clmnopjk.Kinds.r own.band_clmnopjk.Reads.Post
 band-clmnopjk-one κs a e x y p q = same-choice _ x y p q

@@ -1,5 +1,5 @@
--- Helps proofs only: the letter of each band by its boundaries worked raw, 5 if one of them is lost. The rules of the bands, every step checked, are
--- in boundary/specs/Choice. Assumes nothing: these are definitions.
+-- Helps proofs only: the letter of each band by its boundaries worked raw, 5 if one of them is lost that can be lost there. The rules of the bands, every
+-- step checked, are in boundary/specs/Choice. Assumes nothing: these are definitions.
 use Prim.Native.Nat.{ℕ}
 use mathlib.Core.Bool.{cond}
 use mathlib.Core.List.{List, [], _∷_}
@@ -30,21 +30,19 @@ abbrev pub rawCdef : Float → Float → Outcome Letter
 rawCdef p t =
     ifAll (rawTabled 0 p ∷ rawTabled 1 p ∷ rawStraight p ∷ []) (cdefBy (rawTabled 1 p) (rawTabled 0 p) (rawStraight p) t)
 
-abbrev pub rawChijk : Letter → Float → Float → Outcome Letter
-rawChijk second p t =
-    ifAll (bareAt 1 p ∷ rawStraight p ∷ bareAt 2 p ∷ bareAt 3 p ∷ bareAt 4 p ∷ [])
-    (chijkBy second (bareAt 1 p) (bareAt 2 p) (rawStraight p) (bareAt 3 p) (bareAt 4 p) t)
+abbrev pub rawChijk : Letter → Float → Float → Letter
+rawChijk second p t = chijkBy second (bareAt 1 p) (bareAt 2 p) (rawStraight p) (bareAt 3 p) (bareAt 4 p) t
 
 abbrev pub rawClmnopjk : Float → Float → Outcome Letter
 rawClmnopjk p t =
-    ifAll (bareAt 1 p ∷ rawStraight p ∷ bareAt 2 p ∷ bareAt 3 p ∷ bareAt 4 p ∷ bareAt 5 p ∷ rawTabled 6 p ∷ [])
+    ifAll (rawTabled 6 p ∷ [])
     (clmnopjkBy (bareAt 1 p) (bareAt 2 p) (bareAt 5 p) (rawStraight p) (rawTabled 6 p) (bareAt 3 p) (bareAt 4 p) t)
 
 abbrev pub rawCsrk : Float → Float → Outcome Letter
-rawCsrk p t = ifAll (bareAt 1 p ∷ bareAt 4 p ∷ saturated p ∷ []) (csrkBy (bareAt 1 p) (saturated p) (bareAt 4 p) t)
+rawCsrk p t = ifAll (saturated p ∷ []) (csrkBy (bareAt 1 p) (saturated p) (bareAt 4 p) t)
 
 abbrev pub rawCst : Float → Float → Outcome Letter
-rawCst p t = ifAll (bareAt 1 p ∷ saturated p ∷ []) (cstBy (bareAt 1 p) (saturated p) t)
+rawCst p t = ifAll (saturated p ∷ []) (cstBy (bareAt 1 p) (saturated p) t)
 
 abbrev pub rawCt : Float → Float → Outcome Letter
 rawCt p t = ifAll (saturated p ∷ []) (ctBy (saturated p) t)

@@ -1,6 +1,6 @@
-// The bands by p away from the critical point. Each works its boundaries out, hands them to its chooser, and tests once that none is lost: a number less
-// itself is 0, or a NaN where it is lost (proofs/Lost). Between 19 and 25 MPa no power of p can be lost: the bands there work the rows in p with no look
-// at the powers. Which p has which band is in crate boundary.
+// The bands by p away from the critical point. Each works its boundaries out, hands them to its chooser, and tests once that none is lost that can be: a
+// number less itself is 0, or a NaN where it is lost (proofs/Lost). Between 19 and 25 MPa no power of p and no sum in p can be lost (boundaries/proofs/Kept):
+// the bands there work the rows in p with no look at the powers and no test. Which p has which band is in crate boundary.
 use boundaries::AB;
 use boundaries::CD;
 use boundaries::GH;
@@ -60,8 +60,8 @@ pub fn band_cdef(p: MPa, t: Kelvin) -> LetterAnswer
     )
 }
 
-pub fn band_chijk(second: Letter, p: MPa, t: Kelvin) -> LetterAnswer
-    ensures { λ r. ⌜ paperLetter r ≡ rawChijk second (p .0) (t .0) ⌝ }
+pub fn band_chijk(second: Letter, p: MPa, t: Kelvin) -> Letter
+    ensures { λ r. ⌜ r ≡ rawChijk second (p .0) (t .0) ⌝ }
 {
     let x = p.0;
     let tcd = bare_tabled(CD, x);
@@ -69,17 +69,14 @@ pub fn band_chijk(second: Letter, p: MPa, t: Kelvin) -> LetterAnswer
     let tgh = bare_tabled(GH, x);
     let tij = bare_tabled(IJ, x);
     let tjk = bare_tabled(JK, x);
-    answered(
-        by_chijk(
-            second,
-            Kelvin(tcd),
-            Kelvin(tgh),
-            Kelvin(tef),
-            Kelvin(tij),
-            Kelvin(tjk),
-            t,
-        ),
-        (tcd - tcd) + (tef - tef) + (tgh - tgh) + (tij - tij) + (tjk - tjk),
+    by_chijk(
+        second,
+        Kelvin(tcd),
+        Kelvin(tgh),
+        Kelvin(tef),
+        Kelvin(tij),
+        Kelvin(tjk),
+        t,
     )
 }
 
@@ -105,13 +102,7 @@ pub fn band_clmnopjk(p: MPa, t: Kelvin) -> LetterAnswer
             Kelvin(tjk),
             t,
         ),
-        (tcd - tcd)
-            + (tef - tef)
-            + (tgh - tgh)
-            + (tij - tij)
-            + (tjk - tjk)
-            + (tmn - tmn)
-            + (top - top),
+        top,
     )
 }
 
@@ -122,10 +113,7 @@ pub fn band_csrk(p: MPa, t: Kelvin) -> LetterAnswer
     let tcd = bare_tabled(CD, x);
     let tjk = bare_tabled(JK, x);
     let tsat = raw_T_saturation(p);
-    answered(
-        by_csrk(Kelvin(tcd), Kelvin(tsat), Kelvin(tjk), t),
-        (tcd - tcd) + (tjk - tjk) + (tsat - tsat),
-    )
+    answered(by_csrk(Kelvin(tcd), Kelvin(tsat), Kelvin(tjk), t), tsat)
 }
 
 pub fn band_cst(p: MPa, t: Kelvin) -> LetterAnswer
@@ -134,10 +122,7 @@ pub fn band_cst(p: MPa, t: Kelvin) -> LetterAnswer
     let x = p.0;
     let tcd = bare_tabled(CD, x);
     let tsat = raw_T_saturation(p);
-    answered(
-        by_cst(Kelvin(tcd), Kelvin(tsat), t),
-        (tcd - tcd) + (tsat - tsat),
-    )
+    answered(by_cst(Kelvin(tcd), Kelvin(tsat), t), tsat)
 }
 
 pub fn band_ct(p: MPa, t: Kelvin) -> LetterAnswer

@@ -1,2 +1,3 @@
 pub mod TableSums
+pub mod Kept
 pub mod Unique

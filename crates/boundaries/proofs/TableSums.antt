@@ -118,7 +118,7 @@ some [] = false
 some (r ∷ rs) = true
 
 -- a test that each row of a list passes, the row at any place passes
-at-every : (test : Row → Bool) (rs : List Row) (k : ℕ) → T (some rs) → T (every test rs) → T (test (at rs k))
+pub at-every : (test : Row → Bool) (rs : List Row) (k : ℕ) → T (some rs) → T (every test rs) → T (test (at rs k))
 unfolding every
 at-every test [] k f h = absurd f
 at-every test (r ∷ []) k f h = both-left (test r) true h

@@ -1,4 +1,4 @@
--- The rule of each band, every boundary checked as it is worked, is its boundaries worked raw and tested together. Assumes nothing.
+-- The rule of each band, every boundary checked as it is worked, is its boundaries worked raw, and those that can be lost tested together. Assumes nothing.
 use Prim.Native.Nat.{ℕ}
 use mathlib.Core.Path.{_≡_, refl, ap}
 use mathlib.Core.Bool.{Bool, true, false, _&&_, cond}
@@ -7,6 +7,8 @@ use lib.Ieee.{Float, lt}
 use Rattle.common.specs.Outcome.{Outcome, value, refused, finite, check, then}
 use Rattle.common.specs.Decimal.{decimal}
 use Rattle.common.specs.Sum.{every}
+use Rattle.common.proofs.Laws.{check-kept}
+use Rattle.sizes.proofs.Band.{Band}
 use Rattle.subregion.specs.declared.Letter.{Letter}
 use Rattle.r4.specs.Saturation.{T-saturation}
 use Rattle.r4.proofs.Raw.{T-checked}
@@ -14,8 +16,9 @@ use Rattle.choosers.specs.Choosers.{around}
 use Rattle.choosers.proofs.Tests.{gate}
 use Rattle.boundaries.specs.Boundary.{walkRule, rowAt, straight3ef, boundaryOf}
 use Rattle.boundaries.specs.declared.Boundary.the-variants.{Ef, Uv, Wx}
-use Rattle.boundaries.specs.Raw.{rawTabled, rawStraight, Bare}
+use Rattle.boundaries.specs.Raw.{rawTabled, rawStraight}
 use Rattle.boundaries.proofs.TableSums.{inPAt, in-p, by-row, by-line}
+use Rattle.boundaries.proofs.Kept.{bare, sum-kept, straight-kept}
 use Rattle.bands.specs.Bands.{bareAt, saturated, rawAb, rawCdef, rawChijk, rawClmnopjk, rawCsrk, rawCst, rawCt}
 use Rattle.boundary.specs.Choice.{abRule, cdefRule, chijkRule, clmnopjkRule, nearRule, cq-rkRule, csrkRule, cstRule, ctRule}
 use Rattle.boundary.specs.Raw.{rawNear, rawCq-rk}
@@ -25,10 +28,11 @@ use Rattle.boundary.specs.Raw.{rawNear, rawCq-rk}
 next : {A : Type 0} {o : Outcome Float} (x : Float) (f : Float → Outcome A) (b : Bool) (r : Outcome A) → check x ≡ o → f x ≡ cond b r (refused 5) → then o f ≡ cond (finite x && b) r (refused 5)
 next x f b r e h = rw (← e) (gate x f b r h)
 
--- the boundaries: a row in p at a p whose powers keep, any row, 3ef, the saturation line
-bare : (k : ℕ) (p : Float) → Bare p → T (inPAt k) → check (bareAt k p) ≡ walkRule (rowAt k) p
-bare k p b h = in-p k p (bareAt k p) b h refl
+-- one that is not lost
+kept : {A : Type 0} {o : Outcome Float} (x : Float) (f : Float → Outcome A) (r : Outcome A) → check x ≡ o → finite x ≡ true → f x ≡ r → then o f ≡ r
+kept x f r e k h = rw (← e, check-kept x k) h
 
+-- the boundaries: any row, 3ef, the saturation line
 tabled : (k : ℕ) (p : Float) → check (rawTabled k p) ≡ walkRule (rowAt k) p
 tabled k p = by-row k p (rawTabled k p) refl
 
@@ -51,29 +55,27 @@ module _ (p t : Float) where
   unfolding ctRule every
   ct-raw = next (saturated p) _ _ _ (at-saturation p) refl
 
-module _ (p t : Float) (b : Bare p) where
-  pub chijk-raw : (second : Letter) → chijkRule second p t ≡ rawChijk second p t
-  unfolding chijkRule every
-  chijk-raw second =
-      next (bareAt 1 p) _ _ _ (bare 1 p b tt)
-      (next (rawStraight p) _ _ _ (straight p)
-      (next (bareAt 2 p) _ _ _ (bare 2 p b tt) (next (bareAt 3 p) _ _ _ (bare 3 p b tt) (next (bareAt 4 p) _ _ _ (bare 4 p b tt) refl))))
+module _ (p t : Float) (b : Band 7 p) where
+  -- a sum in p, and 3ef: neither is lost
+  in-sum : {A : Type 0} (k : ℕ) → T (inPAt k) → (f : Float → Outcome A) (r : Outcome A) → f (bareAt k p) ≡ r → then (walkRule (rowAt k) p) f ≡ r
+  in-sum k i f r h = kept (bareAt k p) f r (in-p k p (bareAt k p) (bare p b) i refl) (sum-kept k p b) h
+
+  in-line : {A : Type 0} (f : Float → Outcome A) (r : Outcome A) → f (rawStraight p) ≡ r → then (straight3ef p) f ≡ r
+  in-line f r h = kept (rawStraight p) f r (straight p) (straight-kept p b) h
+
+  pub chijk-raw : (second : Letter) → chijkRule second p t ≡ value (rawChijk second p t)
+  unfolding chijkRule
+  chijk-raw second = in-sum 1 tt _ _ (in-line _ _ (in-sum 2 tt _ _ (in-sum 3 tt _ _ (in-sum 4 tt _ _ refl))))
 
   pub clmnopjk-raw : clmnopjkRule p t ≡ rawClmnopjk p t
   unfolding clmnopjkRule every
-  clmnopjk-raw =
-      next (bareAt 1 p) _ _ _ (bare 1 p b tt)
-      (next (rawStraight p) _ _ _ (straight p)
-      (next (bareAt 2 p) _ _ _ (bare 2 p b tt)
-      (next (bareAt 3 p) _ _ _ (bare 3 p b tt)
-      (next (bareAt 4 p) _ _ _ (bare 4 p b tt) (next (bareAt 5 p) _ _ _ (bare 5 p b tt) (next (rawTabled 6 p) _ _ _ (tabled 6 p) refl))))))
+  clmnopjk-raw = in-sum 1 tt _ _ (in-line _ _ (in-sum 2 tt _ _ (in-sum 3 tt _ _ (in-sum 4 tt _ _ (in-sum 5 tt _ _ (next (rawTabled 6 p) _ _ _ (tabled 6 p) refl))))))
 
   -- 3uv, 3wx and 3ef, and what follows them
   near-three : (f : Float → Float → Float → Outcome Letter) (d : Bool) (r : Outcome Letter) →
       f (bareAt 9 p) (rawTabled 10 p) (rawStraight p) ≡ cond d r (refused 5) →
-      then (boundaryOf Uv p) (λ tuv. then (boundaryOf Wx p) (λ twx. then (boundaryOf Ef p) (λ tef. f tuv twx tef)))
-      ≡ cond (finite (bareAt 9 p) && (finite (rawTabled 10 p) && (finite (rawStraight p) && d))) r (refused 5)
-  near-three f d r h = next (bareAt 9 p) _ _ _ (bare 9 p b tt) (next (rawTabled 10 p) _ _ _ (tabled 10 p) (next (rawStraight p) _ _ _ (straight p) h))
+      then (boundaryOf Uv p) (λ tuv. then (boundaryOf Wx p) (λ twx. then (boundaryOf Ef p) (λ tef. f tuv twx tef))) ≡ cond (finite (rawTabled 10 p) && d) r (refused 5)
+  near-three f d r h = in-sum 9 tt _ _ (next (rawTabled 10 p) _ _ _ (tabled 10 p) (in-line _ _ h))
 
   pub near-raw : nearRule p t ≡ rawNear p t
   unfolding nearRule every
@@ -85,17 +87,13 @@ module _ (p t : Float) (b : Bare p) where
       by-p false false e d = rw (e, d) (near-three _ (finite (saturated p) && true) _ (next (saturated p) _ _ _ (at-saturation p) refl))
 
   pub cq-rk-raw : cq-rkRule p t ≡ rawCq-rk p t
-  unfolding cq-rkRule every
-  cq-rk-raw =
-      next (bareAt 1 p) _ _ _ (bare 1 p b tt)
-      (next (bareAt 7 p) _ _ _ (bare 7 p b tt)
-      (next (bareAt 8 p) _ _ _ (bare 8 p b tt)
-      (next (bareAt 4 p) _ _ _ (bare 4 p b tt) (ap (around (bareAt 1 p) (bareAt 7 p) (bareAt 8 p) (bareAt 4 p) t value) near-raw))))
+  unfolding cq-rkRule
+  cq-rk-raw = in-sum 1 tt _ _ (in-sum 7 tt _ _ (in-sum 8 tt _ _ (in-sum 4 tt _ _ (ap (around (bareAt 1 p) (bareAt 7 p) (bareAt 8 p) (bareAt 4 p) t value) near-raw))))
 
   pub csrk-raw : csrkRule p t ≡ rawCsrk p t
   unfolding csrkRule every
-  csrk-raw = next (bareAt 1 p) _ _ _ (bare 1 p b tt) (next (bareAt 4 p) _ _ _ (bare 4 p b tt) (next (saturated p) _ _ _ (at-saturation p) refl))
+  csrk-raw = in-sum 1 tt _ _ (in-sum 4 tt _ _ (next (saturated p) _ _ _ (at-saturation p) refl))
 
   pub cst-raw : cstRule p t ≡ rawCst p t
   unfolding cstRule every
-  cst-raw = next (bareAt 1 p) _ _ _ (bare 1 p b tt) (next (saturated p) _ _ _ (at-saturation p) refl)
+  cst-raw = in-sum 1 tt _ _ (next (saturated p) _ _ _ (at-saturation p) refl)

@@ -1,17 +1,15 @@
--- A p that is above one pressure and not above another, both between 1 and 128 MPa: none of its powers up to 4 either way is lost. Assumes nothing.
+-- A p that is above one pressure and not above another, both between 1 and 128 MPa, is from 2^-7 to 2^7: what no boundary is lost at. Assumes nothing.
 use mathlib.Core.Path.{_≡_, refl, sym, subst}
 use mathlib.Core.Bool.{Bool, true, false, _||_}
 use Prim.Native.Nat.{ℕ, _*_, _≤_}
 use native.Mathlib.Omega.{arith}
 use lib.Dec.{T, leb, leb→le}
-use lib.IntN.{pos, natAbs}
+use lib.IntN.{pos}
 use lib.Ieee.{Float, nan, inf, fin, up, down, lt, le, eq}
 use lib.Ieee.Positive.{num, den, positive, above, above-of-le, le→cross, cross→le, le-trans-positive}
-use borrow.Author.Tests.{ltb-false, leb-true, le-leb}
+use borrow.Author.Tests.{ltb-false}
 use Rattle.sizes.proofs.Band.{Band}
 use Rattle.rules.specs.Power.{one}
-use Rattle.rules.proofs.Usual.{power-band}
-use Rattle.boundaries.specs.Raw.{Bare}
 
 abbrev top : Float
 top = fin false 1 (pos 7)
@@ -55,14 +53,10 @@ band (fin false m e) q from to =
     }
 
 -- f from 1 MPa on, b up to 128 MPa
-pub middle : (f b p : Float) → T (positive f) → T (positive b) → T (leb (1 * den f) (num f * 1)) → T (leb (num b * 1) (128 * den b)) → lt f p ≡ true → lt b p ≡ false → Bare p
-middle f b p F B low high from to i small =
+pub middle : (f b p : Float) → T (positive f) → T (positive b) → T (leb (1 * den f) (num f * 1)) → T (leb (num b * 1) (128 * den b)) → lt f p ≡ true → lt b p ≡ false → Band 7 p
+middle f b p F B low high from to =
     let u = upto b p B (above-of-le f p F (at-most f p from)) to in
     let P = u .0 in
     let lowest : T (le one f) = cross→le one f tt F (leb→le (1 * den f) (num f * 1) low) in
     let highest : T (le b top) = cross→le b top B tt (leb→le (num b * 1) (128 * den b) high) in
-    let four : natAbs i ≤ 4 = leb-true (natAbs i) 4 small in
-    power-band 7 p i
-    (band p P (le-trans-positive one f p tt F P lowest (at-most f p from)) (le-trans-positive p b top P B tt (u .1) highest))
-    (le-leb (natAbs i) 64 (omega arith))
-    (omega arith)
+    band p P (le-trans-positive one f p tt F P lowest (at-most f p from)) (le-trans-positive p b top P B tt (u .1) highest)

@@ -1,5 +1,5 @@
-// The letter by p and t: which band p lies in, and the bands round the critical point, which work their boundaries out and test once that none is lost as
-// the other bands do (crate bands). Last the call, behind its box and the border with region 2.
+// The letter by p and t: which band p lies in, and the bands round the critical point, which work their boundaries out and test once that none is lost that
+// can be, as the other bands do (crate bands). Last the call, behind its box and the border with region 2.
 use bands::answered;
 use bands::band_ab;
 use bands::band_cdef;
@@ -25,9 +25,7 @@ use choosers::by_uyzx;
 use choosers::round_critical;
 use common::Kelvin;
 use common::MPa;
-use common::Refusal;
 use common::Verdict;
-use common::is_finite;
 use r4::raw_T_saturation;
 use subregion::Letter;
 use subregion::LetterAnswer;
@@ -47,14 +45,13 @@ const LIMIT: f64 = 21.0433673189753;
 fn up_to_22_11(tuv: f64, twx: f64, tef: f64, p: MPa, t: Kelvin) -> LetterAnswer
     ensures { λ r. ⌜ paperLetter r ≡ rawTo2211 tuv twx tef (p .0) (t .0) ⌝ }
 {
-    let three = (tuv - tuv) + (twx - twx) + (tef - tef);
     if p.0 > 22.064 {
-        return answered(by_uyzx(Kelvin(tuv), Kelvin(tef), Kelvin(twx), t), three);
+        return answered(by_uyzx(Kelvin(tuv), Kelvin(tef), Kelvin(twx), t), twx);
     }
     let tsat = raw_T_saturation(p);
     answered(
         by_saturated(Kelvin(tsat), Kelvin(tuv), Kelvin(twx), p, t),
-        three + (tsat - tsat),
+        (twx - twx) + (tsat - tsat),
     )
 }
 
@@ -67,10 +64,7 @@ fn band_near(p: MPa, t: Kelvin) -> LetterAnswer
     let twx = tabled(WX, p);
     let tef = straight(p);
     if x > 22.11 {
-        return answered(
-            by_uvwx(Kelvin(tuv), Kelvin(tef), Kelvin(twx), t),
-            (tuv - tuv) + (twx - twx) + (tef - tef),
-        );
+        return answered(by_uvwx(Kelvin(tuv), Kelvin(tef), Kelvin(twx), t), twx);
     }
     up_to_22_11(tuv, twx, tef, p, t)
 }
@@ -83,13 +77,10 @@ fn band_cq_rk(p: MPa, t: Kelvin) -> LetterAnswer
     let tqu = bare_tabled(QU, x);
     let trx = bare_tabled(RX, x);
     let tjk = bare_tabled(JK, x);
-    if is_finite((tcd - tcd) + (tqu - tqu) + (trx - trx) + (tjk - tjk)) {
-        match round_critical(Kelvin(tcd), Kelvin(tqu), Kelvin(trx), Kelvin(tjk), t) {
-            Near::Found(l) => return LetterAnswer::Value(l),
-            Near::Inside => return band_near(p, t),
-        }
+    match round_critical(Kelvin(tcd), Kelvin(tqu), Kelvin(trx), Kelvin(tjk), t) {
+        Near::Found(l) => LetterAnswer::Value(l),
+        Near::Inside => band_near(p, t),
     }
-    LetterAnswer::Refused(Refusal::Step)
 }
 
 // Up to 23 MPa.
@@ -121,10 +112,10 @@ fn up_to_40(p: MPa, t: Kelvin) -> LetterAnswer
         return band_cdef(p, t);
     }
     if x > 23.5 {
-        return band_chijk(Letter::G, p, t);
+        return LetterAnswer::Value(band_chijk(Letter::G, p, t));
     }
     if x > 23.0 {
-        return band_chijk(Letter::L, p, t);
+        return LetterAnswer::Value(band_chijk(Letter::L, p, t));
     }
     up_to_23(p, t)
 }

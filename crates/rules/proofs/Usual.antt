@@ -19,6 +19,7 @@ use Rattle.sizes.specs.Lost.{isZero, looked}
 use Rattle.sizes.specs.Usual.{usualBase}
 use Rattle.sizes.proofs.Looks.{zero-looked}
 use Rattle.sizes.proofs.Band.{Band, mul-band, inverse-band, usual-band}
+use Rattle.sizes.proofs.Most.{Most, of-band, grown}
 use Rattle.rules.specs.Power.{one, odd, lowest, bits, powerRule}
 use Rattle.rules.specs.RawPower.{overBits, bySignOf, rawBySign, rawPower, lookedPower}
 use Rattle.rules.proofs.Powers.{by-bits, power-looked}
@@ -93,33 +94,34 @@ same-bits a (false ∷ bs) i j r x h b c =
     pair i j (suc w) p h = omega arith
 
 -- so is 1/r, and it is not lost
-pub record SameSign (a : Float) (n : ℤ) (r : Float) : Type 0 where
+pub record SameSign (a : Float) (n : ℤ) (r : Float) (k : ℕ) : Type 0 where
   pub equal : bySignOf (looked a) n r ≡ rawBySign n r
-  pub whole : finite (rawBySign n r) ≡ true
+  pub band : Band k (rawBySign n r)
 
-same-sign : (a : Float) (n : ℤ) (k : ℕ) (r : Float) → k ≤ 1022 → Band k r → SameSign a n r
-same-sign a (pos n) k r h b = record { equal = refl; whole = b .kept }
+same-sign : (a : Float) (n : ℤ) (k : ℕ) (r : Float) → k ≤ 1022 → Band k r → SameSign a n r k
+same-sign a (pos n) k r h b = record { equal = refl; band = b }
 same-sign a (negsuc n) k r h b =
     let c = inverse-band k r h b in
-    record { equal = ap (lostOr r) (looked-same k a (div binary64 one r) h c); whole = rw (lostOr-finite r (div binary64 one r) (b .kept)) (c .kept) }
+    record { equal = ap (lostOr r) (looked-same k a (div binary64 one r) h c); band = rw (lostOr-finite r (div binary64 one r) (b .kept)) c }
 
 one-band : Band 0 one
 one-band = record { kept = refl; least = omega arith; most = omega arith }
 
-pub record SamePower (a : Float) (n : ℤ) : Type 0 where
+pub record SamePower (j : ℕ) (a : Float) (n : ℤ) : Type 0 where
   pub equal : lookedPower a n ≡ rawPower a n
-  pub whole : finite (rawPower a n) ≡ true
+  pub most : Most (j * natAbs n) (rawPower a n)
 
-same-power : (j : ℕ) (a : Float) (n : ℤ) → Band j a → leb (natAbs n) 64 ≡ true → j * natAbs n ≤ 1022 → SamePower a n
+pub same-power : (j : ℕ) (a : Float) (n : ℤ) → Band j a → leb (natAbs n) 64 ≡ true → j * natAbs n ≤ 1022 → SamePower j a n
 unfolding lookedPower rawPower
 same-power j a n b small far =
     let few : natAbs n ≤ 64 = leb-true (natAbs n) 64 small in
     let w = weight (bits (natAbs n)) in
-    let fits : 0 + j * w ≤ 1022 = le-trans (le-of-eq (zero-add (j * w))) (le-trans (mul-le-mul-left j (weight-lowest (size (natAbs n)) (natAbs n))) far) in
+    let under : 0 + j * w ≤ j * natAbs n = le-trans (le-of-eq (zero-add (j * w))) (mul-le-mul-left j (weight-lowest (size (natAbs n)) (natAbs n))) in
+    let fits = le-trans under far in
     let s = same-bits a (bits (natAbs n)) 0 j one a fits one-band (λ _. b) in
     let t = same-sign a n (0 + j * w) (overBits (looked a) one a (bits (natAbs n))) fits (s .band) in
     let e = ap (rawBySign n) (s .equal ∙ by-bits 31 one a (natAbs n) (omega arith)) in
-    record { equal = t .equal ∙ e; whole = ap finite (sym e) ∙ t .whole }
+    record { equal = t .equal ∙ e; most = grown (j * natAbs n) under (of-band (subst (Band (0 + j * w)) e (t .band))) }
 
 -- ---- the law, for an n from -64 to 64: at a base from 2^-j to 2^j in size, where 2^(j*|n|) is a normal f64
 
@@ -161,4 +163,4 @@ power-usual a n u small = power-band 15 a n (usual-band a u) small (omega (arith
 -- and its raw form is the power with no look at it
 pub usual-raw : (a : Float) (n : ℤ) → usualBase a ≡ true → leb (natAbs n) 64 ≡ true → orNan (powerRule a n) ≡ rawPower a n
 usual-raw a n u small =
-    ap orNan (power-usual a n u small ∙ check-kept (rawPower a n) (same-power 15 a n (usual-band a u) small (omega (arith, leb-true (natAbs n) 64 small)) .whole))
+    ap orNan (power-usual a n u small ∙ check-kept (rawPower a n) (same-power 15 a n (usual-band a u) small (omega (arith, leb-true (natAbs n) 64 small)) .most .kept))

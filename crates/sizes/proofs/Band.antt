@@ -16,9 +16,10 @@ use lib.Ieee.Order.{round-mono}
 use lib.Ieee.Positive.{num, den, positive, own-value, positive-of-value, values-of-le, between, le-trans-positive}
 use borrow.Author.Tests.{ne-eqb, leb-true, leb-false}
 use Rattle.common.specs.Outcome.{finite}
+use Rattle.common.proofs.Ranges.{positive-kept}
 use Rattle.sizes.specs.Usual.{usualBase}
 
-no : false ≡ true → ⊥
+pub no : false ≡ true → ⊥
 no e = subst T (sym e) tt
 
 -- x is finite, and from 2^-k to 2^k in size
@@ -46,7 +47,7 @@ lowest i h = round-exact binary64 false 1 (2 ^ i) 1 (1074 - i) (pow-pos i) few (
     fine : (l t i : ℕ) → l < t → 1 * 2 ^ (l - i) < 2 ^ t
     fine l t i h = let p : 2 ^ (l - i) < 2 ^ t = pow-lt (omega arith) in omega arith
 
-highest : (i : ℕ) → i ≤ 1022 → HasValue (round binary64 false (2 ^ i) 1) false (2 ^ i) 1
+pub highest : (i : ℕ) → i ≤ 1022 → HasValue (round binary64 false (2 ^ i) 1) false (2 ^ i) 1
 highest i h = round-exact binary64 false (2 ^ i) 1 1 (i + 1074) (pow-pos 0) few (fine (i + 1074) 2098 (omega arith)) (split 1074 i)
   where
     split : (l i : ℕ) → 2 ^ i * 2 ^ l ≡ 1 * 2 ^ (i + l) * 1
@@ -56,10 +57,10 @@ highest i h = round-exact binary64 false (2 ^ i) 1 1 (i + 1074) (pow-pos 0) few 
     fine l t h = let p : 2 ^ l < 2 ^ t = pow-lt h in omega arith
 
 -- the sign does not change the size
-record Alike (x y : Float) : Type 0 where
-  lost : finite x ≡ finite y
-  over : num x ≡ num y
-  under : den x ≡ den y
+pub record Alike (x y : Float) : Type 0 where
+  pub lost : finite x ≡ finite y
+  pub over : num x ≡ num y
+  pub under : den x ≡ den y
 
 odd-size : (d q k l : ℕ) (s : Bool) → Alike (odd d s q k l) (odd d false q k l)
 unfolding odd
@@ -74,7 +75,7 @@ units-size f q k s = go (ltb (q * 2 ^ k) (2 ^ (low f + suc (emax f))))
     go true = odd-size (suc (prec f)) q k (low f) s
     go false = record { lost = refl; over = refl; under = refl }
 
-round-size : (a c : ℕ) (s : Bool) → Alike (round binary64 s a c) (round binary64 false a c)
+pub round-size : (a c : ℕ) (s : Bool) → Alike (round binary64 s a c) (round binary64 false a c)
 unfolding round
 round-size a c s =
     let n = a * 2 ^ low binary64 in
@@ -88,11 +89,6 @@ alike-band k x y e b = record {
   least = rw (e .over, e .under) (b .least);
   most = rw (e .over, e .under) (b .most);
 }
-
-positive-kept : (x : Float) → T (positive x) → finite x ≡ true
-positive-kept nan p = absurd p
-positive-kept (inf s) p = absurd p
-positive-kept (fin s m e) p = refl
 
 pub round-band : (k a c : ℕ) (s : Bool) → k ≤ 1022 → 0 < c → c ≤ a * 2 ^ k → a ≤ 2 ^ k * c → Band k (round binary64 s a c)
 round-band k a c s h C p q =
@@ -117,7 +113,7 @@ crossed a b c d j k J K JK e p q =
     let m : c * d ≤ a * J * (b * K) = mul-le-mul p q in
     le-trans m (le-of-eq (mul-mul-mul-comm a J b K ∙ ap (λ (x : ℕ). a * b * x) (sym e)))
 
-crossed' : (a b c d j k J K JK : ℕ) → JK ≡ J * K → a ≤ J * c → b ≤ K * d → a * b ≤ JK * (c * d)
+pub crossed' : (a b c d j k J K JK : ℕ) → JK ≡ J * K → a ≤ J * c → b ≤ K * d → a * b ≤ JK * (c * d)
 crossed' a b c d j k J K JK e p q =
     let m : a * b ≤ J * c * (K * d) = mul-le-mul p q in
     le-trans m (le-of-eq (mul-mul-mul-comm J c K d ∙ ap (λ (x : ℕ). x * (c * d)) (sym e)))

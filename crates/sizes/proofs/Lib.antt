@@ -1,3 +1,4 @@
 pub mod Band
+pub mod Most
 pub mod Looks
 pub mod Unique

@@ -1,10 +1,10 @@
--- `bands::band_csrk` meets its contract: the boundaries are tested together. Assumes nothing.
-use Rattle.bands.proofs.Lost.{if-all}
+-- `bands::band_csrk` meets its contract: the saturation line is tested. Assumes nothing.
+use Rattle.bands.proofs.Lost.{if-one}
 use borrow.Author.Needs.{needs}
 use Rattle.bands.proofs.band_csrk as own
 
 returns : own.Tie.Need-returns
-returns c = let d = c .before .before in rw (← d .before .before .bare-tabled .ensures, ← d .before .bare-tabled2 .ensures, ← d .raw-T-saturation .ensures) (if-all _ _ (c .answered .ensures) (c .before .by-csrk .ensures))
+returns c = let d = c .before .before in rw (← d .before .before .bare-tabled .ensures, ← d .before .bare-tabled2 .ensures, ← d .raw-T-saturation .ensures) (if-one _ (c .answered .ensures) (c .before .by-csrk .ensures))
 
 pub band-csrk-spec : {M : Type 1} → own.Statement.statement M
 band-csrk-spec =

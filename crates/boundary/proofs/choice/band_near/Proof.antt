@@ -1,7 +1,7 @@
--- `boundary::choice::band_near` meets its contract: the boundaries are tested together. Assumes nothing.
+-- `boundary::choice::band_near` meets its contract: 3wx is tested. Assumes nothing.
 use lib.Ieee.{ofBits, round}
 use Rattle.common.specs.Decimal.{decimal, scaled}
-use Rattle.bands.proofs.Lost.{if-all}
+use Rattle.bands.proofs.Lost.{if-one}
 use borrow.Author.Needs.{needs}
 use Rattle.boundary.proofs.choice.band_near as own
 
@@ -10,7 +10,7 @@ unfolding decimal scaled round ofBits
 returns c =
     let i = c .before .before in
     let d = i .before in
-    rw (← d .before .before .bare-tabled .ensures, ← d .before .tabled .ensures, ← d .straight .ensures, i .if1 .taken) (if-all _ _ (c .answered .ensures) (c .before .by-uvwx .ensures))
+    rw (← d .before .before .bare-tabled .ensures, ← d .before .tabled .ensures, ← d .straight .ensures, i .if1 .taken) (if-one _ (c .answered .ensures) (c .before .by-uvwx .ensures))
 
 returns-2 : own.Tie.Need-returns-2
 unfolding decimal scaled round ofBits

@@ -1,13 +1,13 @@
 -- `boundary::choice::up_to_22_11` meets its contract: the boundaries are tested together. Assumes nothing.
 use lib.Ieee.{ofBits, round}
 use Rattle.common.specs.Decimal.{decimal, scaled}
-use Rattle.bands.proofs.Lost.{if-all}
+use Rattle.bands.proofs.Lost.{if-all, if-one}
 use borrow.Author.Needs.{needs}
 use Rattle.boundary.proofs.choice.up_to_22_11 as own
 
 returns : own.Tie.Need-returns
 unfolding decimal scaled round ofBits
-returns c = rw (c .before .before .if1 .taken) (if-all _ _ (c .answered .ensures) (c .before .by-uyzx .ensures))
+returns c = rw (c .before .before .if1 .taken) (if-one _ (c .answered .ensures) (c .before .by-uyzx .ensures))
 
 returns-2 : own.Tie.Need-returns-2
 unfolding decimal scaled round ofBits
