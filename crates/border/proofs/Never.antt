@@ -1,10 +1,9 @@
 -- For a p of the box no step of the border's temperature is lost: the border is n4 and the root of a number above 0, and lies from n4 + 50 to n4 + 300. So
 -- the test against it refuses with 8 or not at all. Assumes nothing.
 use mathlib.Core.Path.{_≡_, refl, ap, _∙_}
-use Prim.Native.Nat.{zero, suc}
 use mathlib.Core.Bool.{Bool, true, false, cond}
 use lib.Dec.{T}
-use lib.Ieee.{Float, nan, inf, fin, binary64, round, neg, sum, add, sub, mul, div, fits, le, lt, eq}
+use lib.Ieee.{Float, binary64, round, neg, sum, add, sub, mul, div, fits, le, lt, eq}
 use lib.Ieee.Fits.{div-fits, and-l, and-r}
 use lib.Ieee.Positive.{positive, between, le-trans-positive}
 use Rattle.common.specs.Outcome.{Outcome, value, refused, finite, then, orNan}

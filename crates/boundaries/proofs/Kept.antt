@@ -1,6 +1,6 @@
 -- At a p from 2^-7 to 2^7 no boundary that is a sum in p is lost: no power is, a term is at most 2^44 in size, and a row has few. So a band that lies there
 -- need not test it. Assumes nothing.
-use mathlib.Core.Path.{_≡_, refl}
+use mathlib.Core.Path.{_≡_}
 use mathlib.Core.Bool.{Bool, true, _&&_}
 use mathlib.Core.List.{List, [], _∷_}
 use Prim.Native.Nat.{ℕ, _+_, _*_, _^_, _≤_}

@@ -18,7 +18,6 @@ use Rattle.powers.proofs.Looked.{powers-hold}
 use Rattle.algo.specs.Raw.{Summed, SharesSummed, rawDivided, gate, covers}
 use Rattle.algo.proofs.Sums.{slope-ends, share-ends}
 use Rattle.algo.proofs.Settled.{slope-settled, share-settled}
-use Rattle.common.specs.Formula.{Raw}
 use Rattle.common.specs.Number.{Number}
 use Rattle.common.proofs.Numbers.{settled-number}
 use Rattle.printed.specs.Table30.{table30}

@@ -1,5 +1,4 @@
 -- Each contract admits one answer. The theorems are about the contracts' own readings, `Reads.Post`, and not about a copy of them.
-use mathlib.Core.Path.{sym, _∙_}
 use Rattle.common.proofs.Same.{One}
 use Rattle.common.proofs.Numbers.{one-number}
 use Rattle.helmholtz.proofs as own

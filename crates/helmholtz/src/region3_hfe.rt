@@ -13,7 +13,6 @@ use joint::four_sums;
 use joint::joint_sums;
 use powers::fill_powers;
 use slopes::slope_sum;
-ghost use mathlib.Core.Path.{_≡_};
 ghost use Rattle.common.specs.Outcome.{check};
 ghost use Rattle.common.specs.Number.{Number};
 ghost use Rattle.helmholtz.specs.Hfe.{slope, share, phi, phi-delta, phi-deltadelta, phi-tau, phi-tautau, phi-deltatau, joint-phi, joint-tau, joint-delta, four-delta, four-deltadelta, four-deltatau, four-tautau};

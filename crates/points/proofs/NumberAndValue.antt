@@ -1,6 +1,5 @@
 -- A promise on an outcome and one on the number and the value that a caller is told are the same promise: no answer of the library refuses with 0, and of
 -- outcomes that do not, equal numbers and values make equal outcomes. Assumes nothing.
-use Prim.Native.Nat.{ℕ}
 use mathlib.Core.Path.{_≡_, sym, ap}
 use lib.Ieee.{Float}
 use native.Mathlib.Omega.{arith}

@@ -1,6 +1,6 @@
 -- Each contract admits one answer. The theorems are about the contracts' own readings, `Reads.Post`, and not about a copy of them.
 -- Assumes nothing.
-use mathlib.Core.Path.{_≡_, refl, sym, ap, _∙_}
+use mathlib.Core.Path.{_≡_, refl, ap}
 use Rattle.common.specs.Outcome.{Outcome, value, refused}
 use Rattle.common.proofs.Same.{One, same, same-answer, kindOf, kind-number}
 use Rattle.polynomial.specs.Columns.{paperPair, paperFour}

@@ -1,6 +1,5 @@
 -- Each printed table is the Rust's, digit by digit and row by row: its pin (common/proofs/Pin.antt), computed of the definition, is the
 -- number that tools/pins.py works from the text of the Rust. Written by that script.
-use Prim.Native.Nat.{ℕ}
 use mathlib.Core.Path.{_≡_, refl}
 use mathlib.Core.List.{List, [], _∷_}
 use lib.Ieee.{Float}

@@ -5,7 +5,7 @@ use mathlib.Core.List.{List, [], _∷_, _++_}
 use Prim.Native.Nat.{ℕ}
 use lib.Dec.{T}
 use lib.ListN.{replicate}
-use lib.Ieee.{Float, binary64, ofBits}
+use lib.Ieee.{Float, ofBits}
 use lib.Ieee.{round, neg, add, sub, sum, mul, div, ofInt, le, lt}
 use Rattle.common.specs.Decimal.{scaled, decimal, whole, plus, minus}
 use Rattle.common.specs.Sum.{total}
@@ -35,10 +35,9 @@ use Rattle.record.specs.declared.Record.{Record}
 use Rattle.record.specs.Record.{report}
 use Rattle.exchange_record.specs.declared.Pair.{Pair}
 use Rattle.exchange_record.specs.declared.Pair.the-variants.{PT}
-use Rattle.exchange_record.specs.declared.Asked.{Asked}
 use Rattle.exchange_record.specs.Reading.{Means}
 use Rattle.exchange_record.proofs.Points as read
-use Rattle.exchange_entry.specs.Call.{exchangeOf, Exchanged}
+use Rattle.exchange_entry.specs.Call.{Exchanged}
 use Rattle.common.proofs.Sums.{both-left, both-right}
 use Rattle.record_points.proofs.Columns.{same, every-number}
 use Rattle.record_points.proofs.Records.{isRecord, pT-accepted}

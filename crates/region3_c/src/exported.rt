@@ -2,7 +2,6 @@
 use common::Answer;
 use common::number;
 use search::FoundAnswer;
-ghost use mathlib.Core.Path.{_≡_};
 ghost use Rattle.common.specs.Answer.{paper};
 ghost use Rattle.place.specs.AcceptedPlace.{paperFound};
 ghost use Rattle.region3_c.specs.Exported.{Exported, ExportedFound};

@@ -3,9 +3,9 @@ use mathlib.Core.Path.{_≡_, refl}
 use mathlib.Core.Bool.{Bool, false, _&&_}
 use Prim.Native.Nat.{ℕ}
 use lib.Dec.{eqb, T}
-use lib.Ieee.{Float, nan, round, neg, add, sub, sum, mul, div, ofInt, le, lt, eq}
+use lib.Ieee.{Float, round, neg, add, sub, sum, mul, div, ofInt, le, lt, eq}
 use Rattle.common.specs.Decimal.{scaled, decimal, whole, plus, minus}
-use Rattle.common.specs.Outcome.{Outcome, value, refused, zeroF}
+use Rattle.common.specs.Outcome.{Outcome, value, refused}
 use Rattle.common.specs.Sum.{total}
 use Rattle.inverses.specs.Units.{inUnits}
 use Rattle.rules.specs.Power.{powerRule, byBits, lowest}

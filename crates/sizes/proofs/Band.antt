@@ -22,6 +22,14 @@ use Rattle.sizes.specs.Usual.{usualBase}
 pub no : false ≡ true → ⊥
 no e = subst T (sym e) tt
 
+-- a law of two finite numbers, from their parts
+pub of-finite : (P : Float → Float → Type 0) (x y : Float) → finite x ≡ true → finite y ≡ true → ((s : Bool) (m : ℕ) (e : ℤ) (t : Bool) (n : ℕ) (d : ℤ) → P (fin s m e) (fin t n d)) → P x y
+of-finite P nan y p q law = absurd (no p)
+of-finite P (inf s) y p q law = absurd (no p)
+of-finite P (fin s m e) nan p q law = absurd (no q)
+of-finite P (fin s m e) (inf t) p q law = absurd (no q)
+of-finite P (fin s m e) (fin t n d) p q law = law s m e t n d
+
 -- x is finite, and from 2^-k to 2^k in size
 pub record Band (k : ℕ) (x : Float) : Type 0 where
   pub kept : finite x ≡ true
@@ -120,14 +128,13 @@ crossed' a b c d j k J K JK e p q =
 
 pub mul-band : (j k : ℕ) (x y : Float) → j + k ≤ 1022 → Band j x → Band k y → Band (j + k) (mul binary64 x y)
 unfolding mul
-mul-band j k nan y h b c = absurd (no (b .kept))
-mul-band j k (inf s) y h b c = absurd (no (b .kept))
-mul-band j k (fin s m e) nan h b c = absurd (no (c .kept))
-mul-band j k (fin s m e) (inf t) h b c = absurd (no (c .kept))
-mul-band j k (fin s m e) (fin t n d) h b c =
-    round-band (j + k) (m * up e * (n * up d)) (down e * down d) (unlike s t) h (mul-pos (down-pos e) (down-pos d))
-    (crossed (m * up e) (n * up d) (down e) (down d) j k (2 ^ j) (2 ^ k) (2 ^ (j + k)) (pow-add 2 j k) (b .least) (c .least))
-    (crossed' (m * up e) (n * up d) (down e) (down d) j k (2 ^ j) (2 ^ k) (2 ^ (j + k)) (pow-add 2 j k) (b .most) (c .most))
+mul-band j k x y h b c = of-finite (λ x y. Band j x → Band k y → Band (j + k) (mul binary64 x y)) x y (b .kept) (c .kept) by-parts b c
+  where
+    by-parts : (s : Bool) (m : ℕ) (e : ℤ) (t : Bool) (n : ℕ) (d : ℤ) → Band j (fin s m e) → Band k (fin t n d) → Band (j + k) (mul binary64 (fin s m e) (fin t n d))
+    by-parts s m e t n d b c =
+        round-band (j + k) (m * up e * (n * up d)) (down e * down d) (unlike s t) h (mul-pos (down-pos e) (down-pos d))
+        (crossed (m * up e) (n * up d) (down e) (down d) j k (2 ^ j) (2 ^ k) (2 ^ (j + k)) (pow-add 2 j k) (b .least) (c .least))
+        (crossed' (m * up e) (n * up d) (down e) (down d) j k (2 ^ j) (2 ^ k) (2 ^ (j + k)) (pow-add 2 j k) (b .most) (c .most))
 
 -- ---- 1 divided by a number
 

@@ -6,14 +6,15 @@ use Prim.Native.Nat.{ℕ, zero, suc, _+_, _-_, _*_, _/_, _%_, _^_, _≤_, _<_, c
 use native.Mathlib.Nat.{le-trans, le-of-eq, mul-one, mul-pos, mul-comm, mul-assoc, mul-right-comm, mul-le-mul-right, zero-lt-suc}
 use native.Mathlib.Omega.{arith}
 use lib.Dec.{T, ltb, lt→ltb}
+use lib.IntN.{ℤ}
 use lib.Pow.{pow-add, pow-pos, pow-mono}
-use lib.Ieee.{Float, nan, inf, fin, Format, binary64, prec, emax, low, up, down, size, nearest, odd, units, round, neg, sum, add, sub, mul, le, unlike}
+use lib.Ieee.{Float, nan, inf, fin, binary64, prec, emax, low, up, down, size, nearest, odd, units, round, neg, sum, add, sub, mul, le, unlike}
 use lib.Ieee.Fits.{down-pos}
 use lib.Ieee.Exact.{HasValue}
 use lib.Ieee.Order.{round-mono}
 use lib.Ieee.Positive.{num, den, positive, own-value, positive-of-value, values-of-le}
 use Rattle.common.specs.Outcome.{finite}
-use Rattle.sizes.proofs.Band.{Band, highest, round-size, crossed', no}
+use Rattle.sizes.proofs.Band.{Band, of-finite, highest, round-size, crossed', no}
 
 -- x is finite, and at most 2^k in size
 pub record Most (k : ℕ) (x : Float) : Type 0 where
@@ -86,13 +87,12 @@ round-most k a c s h C q =
 
 pub mul-most : (j k : ℕ) (x y : Float) → j + k ≤ 1022 → Most j x → Most k y → Most (j + k) (mul binary64 x y)
 unfolding mul
-mul-most j k nan y h b c = absurd (no (b .kept))
-mul-most j k (inf s) y h b c = absurd (no (b .kept))
-mul-most j k (fin s m e) nan h b c = absurd (no (c .kept))
-mul-most j k (fin s m e) (inf t) h b c = absurd (no (c .kept))
-mul-most j k (fin s m e) (fin t n d) h b c =
-    round-most (j + k) (m * up e * (n * up d)) (down e * down d) (unlike s t) h (mul-pos (down-pos e) (down-pos d))
-    (crossed' (m * up e) (n * up d) (down e) (down d) j k (2 ^ j) (2 ^ k) (2 ^ (j + k)) (pow-add 2 j k) (b .most) (c .most))
+mul-most j k x y h b c = of-finite (λ x y. Most j x → Most k y → Most (j + k) (mul binary64 x y)) x y (b .kept) (c .kept) by-parts b c
+  where
+    by-parts : (s : Bool) (m : ℕ) (e : ℤ) (t : Bool) (n : ℕ) (d : ℤ) → Most j (fin s m e) → Most k (fin t n d) → Most (j + k) (mul binary64 (fin s m e) (fin t n d))
+    by-parts s m e t n d b c =
+        round-most (j + k) (m * up e * (n * up d)) (down e * down d) (unlike s t) h (mul-pos (down-pos e) (down-pos d))
+        (crossed' (m * up e) (n * up d) (down e) (down d) j k (2 ^ j) (2 ^ k) (2 ^ (j + k)) (pow-add 2 j k) (b .most) (c .most))
 
 -- ---- a sum
 
@@ -119,14 +119,13 @@ sum-most k a b c s t h C p q = go (Bool·beq s t) (ltb a b) (s && ltb b a)
 
 pub add-most : (k : ℕ) (x y : Float) → k + 1 ≤ 1022 → Most k x → Most k y → Most (k + 1) (add binary64 x y)
 unfolding add
-add-most k nan y h b c = absurd (no (b .kept))
-add-most k (inf s) y h b c = absurd (no (b .kept))
-add-most k (fin s m e) nan h b c = absurd (no (c .kept))
-add-most k (fin s m e) (inf t) h b c = absurd (no (c .kept))
-add-most k (fin s m e) (fin t n d) h b c =
-    sum-most k (m * up e * down d) (n * up d * down e) (down e * down d) s t h (mul-pos (down-pos e) (down-pos d))
-    (le-trans (mul-le-mul-right (down d) (b .most)) (le-of-eq (mul-assoc (2 ^ k) (down e) (down d))))
-    (le-trans (mul-le-mul-right (down e) (c .most)) (le-of-eq (mul-assoc (2 ^ k) (down d) (down e) ∙ ap (λ (x : ℕ). 2 ^ k * x) (mul-comm (down d) (down e)))))
+add-most k x y h b c = of-finite (λ x y. Most k x → Most k y → Most (k + 1) (add binary64 x y)) x y (b .kept) (c .kept) by-parts b c
+  where
+    by-parts : (s : Bool) (m : ℕ) (e : ℤ) (t : Bool) (n : ℕ) (d : ℤ) → Most k (fin s m e) → Most k (fin t n d) → Most (k + 1) (add binary64 (fin s m e) (fin t n d))
+    by-parts s m e t n d b c =
+        sum-most k (m * up e * down d) (n * up d * down e) (down e * down d) s t h (mul-pos (down-pos e) (down-pos d))
+        (le-trans (mul-le-mul-right (down d) (b .most)) (le-of-eq (mul-assoc (2 ^ k) (down e) (down d))))
+        (le-trans (mul-le-mul-right (down e) (c .most)) (le-of-eq (mul-assoc (2 ^ k) (down d) (down e) ∙ ap (λ (x : ℕ). 2 ^ k * x) (mul-comm (down d) (down e)))))
 
 neg-most : {k : ℕ} (x : Float) → Most k x → Most k (neg x)
 unfolding neg

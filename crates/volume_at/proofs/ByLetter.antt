@@ -7,7 +7,7 @@ use Rattle.record.specs.declared.Origin.{Origin}
 use Rattle.record.specs.declared.Origin.the-variants.{Subregion}
 use Rattle.subregion.specs.declared.Letter.{Letter}
 use Rattle.volume.specs.Equation.{volumeAt}
-use Rattle.volume.specs.State.{State, stateOf, stateBy}
+use Rattle.volume.specs.State.{stateOf, stateBy}
 use Rattle.volume_at.specs.Volumes.{volumeIn}
 
 by-density : (o : Origin) (v : Float) (q : Outcome Float) → volumeIn (then q (λ d. value (record { origin = o; v = v; d = d }))) ≡ then q (λ _. value v)

@@ -6,7 +6,6 @@ use native.Mathlib.Nat.{div-one, le-antisymm}
 use native.Mathlib.Omega.{arith}
 use lib.ListN.{length, set, length-set}
 use lib.Seq.{sets}
-use borrow.Author.Needs.{needs}
 use Rattle.buffer.specs.Bytes.{joined}
 use Rattle.buffer.proofs.Laws.{pieces-more, bytesTo, byte-next, bytes-eight}
 use Rattle.buffer.proofs.put_eight as own

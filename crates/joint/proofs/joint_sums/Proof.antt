@@ -8,7 +8,6 @@ use lib.Ieee.{ofBits}
 use lib.ListN.{length, getD}
 use borrow.Author.Needs.{needs}
 use Rattle.algo.proofs.Loops.{Within, Shortest, shortest, back}
-use Rattle.algo.specs.declared.Order.the-variants.{Zero}
 use Rattle.joint.proofs.Shares.{LeftOf, Item, added, ended}
 use Rattle.joint.proofs.joint_sums as own
 

@@ -1,5 +1,4 @@
 -- `boundaries::temperatures::place` meets its contract: each boundary has its place. Assumes nothing.
-use Prim.Native.Nat.{ℕ}
 use mathlib.Core.Path.{_≡_, sym, ap}
 use borrow.Author.Needs.{needs}
 use Rattle.boundaries.specs.Raw.{placeOf}

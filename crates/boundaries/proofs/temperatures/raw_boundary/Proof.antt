@@ -1,5 +1,5 @@
 -- `boundaries::temperatures::raw_boundary` meets its contract: each boundary is asked of its place. Assumes nothing.
-use mathlib.Core.Path.{_≡_, refl, sym, ap, _∙_}
+use mathlib.Core.Path.{_≡_, refl, ap, _∙_}
 use mathlib.Core.Bool.{Bool, cond}
 use lib.Dec.{eqb}
 use Rattle.boundaries.specs.Boundary.{Form, tabled, straight, formOf, formRule}
