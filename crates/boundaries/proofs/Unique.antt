@@ -6,11 +6,41 @@ use Rattle.boundaries.proofs as own
 pub T-atRegionBoundary-one : One 0 own.temperatures.T_atRegionBoundary.Kinds.ps own.temperatures.T_atRegionBoundary.Kinds.r own.temperatures.T_atRegionBoundary.Reads.Post
 T-atRegionBoundary-one κs a e x y p q = same-answer _ x y p q
 
-pub bare-tabled-one : One 0 own.temperatures.bare_tabled.Kinds.ps own.temperatures.bare_tabled.Kinds.r own.temperatures.bare_tabled.Reads.Post
-bare-tabled-one κs a e x y p q = p ∙ sym q
+pub t-3ab-one : One 0 own.temperatures.t_3ab.Kinds.ps own.temperatures.t_3ab.Kinds.r own.temperatures.t_3ab.Reads.Post
+t-3ab-one κs a e x y p q = p ∙ sym q
 
-pub tabled-one : One 0 own.temperatures.tabled.Kinds.ps own.temperatures.tabled.Kinds.r own.temperatures.tabled.Reads.Post
-tabled-one κs a e x y p q = p ∙ sym q
+pub t-3cd-one : One 0 own.temperatures.t_3cd.Kinds.ps own.temperatures.t_3cd.Kinds.r own.temperatures.t_3cd.Reads.Post
+t-3cd-one κs a e x y p q = p ∙ sym q
 
-pub straight-one : One 0 own.temperatures.straight.Kinds.ps own.temperatures.straight.Kinds.r own.temperatures.straight.Reads.Post
-straight-one κs a e x y p q = p ∙ sym q
+pub t-3ef-one : One 0 own.temperatures.t_3ef.Kinds.ps own.temperatures.t_3ef.Kinds.r own.temperatures.t_3ef.Reads.Post
+t-3ef-one κs a e x y p q = p ∙ sym q
+
+pub t-3op-one : One 0 own.temperatures.t_3op.Kinds.ps own.temperatures.t_3op.Kinds.r own.temperatures.t_3op.Reads.Post
+t-3op-one κs a e x y p q = p ∙ sym q
+
+pub t-3wx-one : One 0 own.temperatures.t_3wx.Kinds.ps own.temperatures.t_3wx.Kinds.r own.temperatures.t_3wx.Reads.Post
+t-3wx-one κs a e x y p q = p ∙ sym q
+
+pub bare-3cd-one : One 0 own.temperatures.bare_3cd.Kinds.ps own.temperatures.bare_3cd.Kinds.r own.temperatures.bare_3cd.Reads.Post
+bare-3cd-one κs a e x y p q = p ∙ sym q
+
+pub bare-3gh-one : One 0 own.temperatures.bare_3gh.Kinds.ps own.temperatures.bare_3gh.Kinds.r own.temperatures.bare_3gh.Reads.Post
+bare-3gh-one κs a e x y p q = p ∙ sym q
+
+pub bare-3ij-one : One 0 own.temperatures.bare_3ij.Kinds.ps own.temperatures.bare_3ij.Kinds.r own.temperatures.bare_3ij.Reads.Post
+bare-3ij-one κs a e x y p q = p ∙ sym q
+
+pub bare-3jk-one : One 0 own.temperatures.bare_3jk.Kinds.ps own.temperatures.bare_3jk.Kinds.r own.temperatures.bare_3jk.Reads.Post
+bare-3jk-one κs a e x y p q = p ∙ sym q
+
+pub bare-3mn-one : One 0 own.temperatures.bare_3mn.Kinds.ps own.temperatures.bare_3mn.Kinds.r own.temperatures.bare_3mn.Reads.Post
+bare-3mn-one κs a e x y p q = p ∙ sym q
+
+pub bare-3qu-one : One 0 own.temperatures.bare_3qu.Kinds.ps own.temperatures.bare_3qu.Kinds.r own.temperatures.bare_3qu.Reads.Post
+bare-3qu-one κs a e x y p q = p ∙ sym q
+
+pub bare-3rx-one : One 0 own.temperatures.bare_3rx.Kinds.ps own.temperatures.bare_3rx.Kinds.r own.temperatures.bare_3rx.Reads.Post
+bare-3rx-one κs a e x y p q = p ∙ sym q
+
+pub bare-3uv-one : One 0 own.temperatures.bare_3uv.Kinds.ps own.temperatures.bare_3uv.Kinds.r own.temperatures.bare_3uv.Reads.Post
+bare-3uv-one κs a e x y p q = p ∙ sym q

@@ -3,21 +3,20 @@
 mod table;
 mod temperatures;
 
-pub use table::AB;
-pub use table::CD;
-pub use table::GH;
-pub use table::IJ;
-pub use table::JK;
-pub use table::MN;
-pub use table::OP;
-pub use table::QU;
-pub use table::RX;
-pub use table::UV;
-pub use table::WX;
 pub use temperatures::T_atRegionBoundary;
-pub use temperatures::bare_tabled;
-pub use temperatures::straight;
-pub use temperatures::tabled;
+pub use temperatures::bare_3cd;
+pub use temperatures::bare_3gh;
+pub use temperatures::bare_3ij;
+pub use temperatures::bare_3jk;
+pub use temperatures::bare_3mn;
+pub use temperatures::bare_3qu;
+pub use temperatures::bare_3rx;
+pub use temperatures::bare_3uv;
+pub use temperatures::t_3ab;
+pub use temperatures::t_3cd;
+pub use temperatures::t_3ef;
+pub use temperatures::t_3op;
+pub use temperatures::t_3wx;
 
 // A boundary between two subregions.
 pub enum Boundary {

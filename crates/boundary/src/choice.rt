@@ -1,5 +1,5 @@
-// The letter by p and t: which band p lies in, and the bands round the critical point, which work their boundaries out and test once that none is lost that
-// can be, as the other bands do (crate bands). Last the call, behind its box and the border with region 2.
+// The letter by p and t: which band p lies in, and the bands round the critical point, which work their boundaries out and test once those that may not be
+// finite, as the other bands do (crate bands). Last the call, behind its box and the border with region 2.
 use bands::answered;
 use bands::band_ab;
 use bands::band_cdef;
@@ -9,15 +9,13 @@ use bands::band_csrk;
 use bands::band_cst;
 use bands::band_ct;
 use border::check_region3;
-use boundaries::CD;
-use boundaries::JK;
-use boundaries::QU;
-use boundaries::RX;
-use boundaries::UV;
-use boundaries::WX;
-use boundaries::bare_tabled;
-use boundaries::straight;
-use boundaries::tabled;
+use boundaries::bare_3cd;
+use boundaries::bare_3jk;
+use boundaries::bare_3qu;
+use boundaries::bare_3rx;
+use boundaries::bare_3uv;
+use boundaries::t_3ef;
+use boundaries::t_3wx;
 use choosers::Near;
 use choosers::by_saturated;
 use choosers::by_uvwx;
@@ -59,11 +57,10 @@ fn up_to_22_11(tuv: f64, twx: f64, tef: f64, p: MPa, t: Kelvin) -> LetterAnswer
 fn band_near(p: MPa, t: Kelvin) -> LetterAnswer
     ensures { λ r. ⌜ paperLetter r ≡ rawNear (p .0) (t .0) ⌝ }
 {
-    let x = p.0;
-    let tuv = bare_tabled(UV, x);
-    let twx = tabled(WX, p);
-    let tef = straight(p);
-    if x > 22.11 {
+    let tuv = bare_3uv(p);
+    let twx = t_3wx(p);
+    let tef = t_3ef(p);
+    if p.0 > 22.11 {
         return answered(by_uvwx(Kelvin(tuv), Kelvin(tef), Kelvin(twx), t), twx);
     }
     up_to_22_11(tuv, twx, tef, p, t)
@@ -72,11 +69,10 @@ fn band_near(p: MPa, t: Kelvin) -> LetterAnswer
 fn band_cq_rk(p: MPa, t: Kelvin) -> LetterAnswer
     ensures { λ r. ⌜ paperLetter r ≡ rawCq-rk (p .0) (t .0) ⌝ }
 {
-    let x = p.0;
-    let tcd = bare_tabled(CD, x);
-    let tqu = bare_tabled(QU, x);
-    let trx = bare_tabled(RX, x);
-    let tjk = bare_tabled(JK, x);
+    let tcd = bare_3cd(p);
+    let tqu = bare_3qu(p);
+    let trx = bare_3rx(p);
+    let tjk = bare_3jk(p);
     match round_critical(Kelvin(tcd), Kelvin(tqu), Kelvin(trx), Kelvin(tjk), t) {
         Near::Found(l) => LetterAnswer::Value(l),
         Near::Inside => band_near(p, t),

@@ -7,13 +7,13 @@ returns : own.Tie.Need-returns
 returns c =
     let n = c .before .before .before in
     let d = n .before in
-    rw (← d .before .before .before .bare-tabled .ensures, ← d .before .before .bare-tabled2 .ensures, ← d .before .bare-tabled3 .ensures, ← d .bare-tabled4 .ensures, around-or, ← n .round-critical .ensures, c .before .l .given .1)
+    rw (← d .before .before .before .bare-3cd .ensures, ← d .before .before .bare-3qu .ensures, ← d .before .bare-3rx .ensures, ← d .bare-3jk .ensures, around-or, ← n .round-critical .ensures, c .before .l .given .1)
 
 returns-2 : own.Tie.Need-returns-2
 returns-2 c =
     let n = c .before .before .before in
     let d = n .before in
-    rw (← d .before .before .before .bare-tabled .ensures, ← d .before .before .bare-tabled2 .ensures, ← d .before .bare-tabled3 .ensures, ← d .bare-tabled4 .ensures, around-or, ← n .round-critical .ensures, c .before .enum-told .given .1) (c .band-near .ensures)
+    rw (← d .before .before .before .bare-3cd .ensures, ← d .before .before .bare-3qu .ensures, ← d .before .bare-3rx .ensures, ← d .bare-3jk .ensures, around-or, ← n .round-critical .ensures, c .before .enum-told .given .1) (c .band-near .ensures)
 
 pub band-cq-rk-spec : {M : Type 1} → own.Statement.statement M
 band-cq-rk-spec =

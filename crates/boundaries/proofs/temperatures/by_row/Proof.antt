@@ -1,12 +1,12 @@
--- `boundaries::temperatures::tabled` meets its contract: at a usual x the two walks are one. Assumes nothing.
+-- `boundaries::temperatures::by_row` meets its contract: at a usual x the two kinds of powers are one. Assumes nothing.
 use mathlib.Core.Path.{_≡_, sym, ap, _∙_}
-use mathlib.Core.Bool.{true}
+use mathlib.Core.Bool.{true, false}
 use Rattle.sizes.specs.Usual.{usualBase}
 use Rattle.boundaries.specs.Boundary.{Row, rowAt}
 use Rattle.boundaries.specs.Raw.{argumentIn, rawArgument, rawSum}
 use Rattle.boundaries.proofs.TableSums.{usual-sum, table-few}
 use borrow.Author.Needs.{needs}
-use Rattle.boundaries.proofs.temperatures.tabled as own
+use Rattle.boundaries.proofs.temperatures.by_row as own
 
 -- what the row's sum is in
 x-is : (c : own.Tie.After-argument) → let a = c .before .before .args in c .argument .result ≡ rawArgument (argumentIn (rowAt (a .k))) (a .p .0)
@@ -18,12 +18,12 @@ returns c =
     let k = d .before .before .args .k in
     let x = d .argument .result in
     let u : usualBase x ≡ true = sym (c .before .before .usual .ensures) ∙ c .before .if1 .taken in
-    c .bare-tabled .ensures ∙ usual-sum (rowAt k) x u (table-few k) ∙ ap (rawSum (rowAt k)) (x-is d)
+    c .walk-at .ensures ∙ usual-sum (rowAt k) x u (table-few k) ∙ ap (rawSum false (rowAt k)) (x-is d)
 
 returns-2 : own.Tie.Need-returns-2
-returns-2 c = c .ruled-tabled .ensures ∙ ap (rawSum (rowAt (c .before .before .before .before .before .args .k))) (x-is (c .before .before .before))
+returns-2 c = c .walk-at2 .ensures ∙ ap (rawSum false (rowAt (c .before .before .before .before .before .args .k))) (x-is (c .before .before .before))
 
-pub tabled-spec : {M : Type 1} → own.Statement.statement M
-tabled-spec =
+pub by-row-spec : {M : Type 1} → own.Statement.statement M
+by-row-spec =
     own.Tie.close (own.Tie.spec (λ c κs. search needs) (λ c κs. search needs) (λ c κs. search needs) (λ c κs. search needs) (λ c κs. search needs) returns
     returns-2)
