@@ -58,7 +58,8 @@ term-most p b (term i n) h =
     let power = same-power 7 p i b (le-leb (natAbs i) 64 (omega arith)) (omega arith) .most in
     mul-most 16 28 n (rawPower p i) (omega arith) (constant 16 n (both-right (leb (natAbs i) 4) (light 16 n) h)) (grown 28 (omega arith) power)
 
-total-kept : (p : Float) → Band 7 p → (k : ℕ) (z : Float) (ts : List Term) → 44 ≤ k → Most k z → T (every lightTerm ts) → T (room k ts) → finite (rawTotal (bareTerm p) z ts) ≡ true
+total-kept : (p : Float) → Band 7 p → (k : ℕ) (z : Float) (ts : List Term) → 44 ≤ k → Most k z → T (every lightTerm ts) → T (room k ts) →
+    finite (rawTotal (bareTerm p) z ts) ≡ true
 unfolding rawTotal every
 total-kept p b k z [] l s h r = s .kept
 total-kept p b k z (t ∷ ts) l s h r =
@@ -71,7 +72,8 @@ total-kept p b k z (t ∷ ts) l s h r =
 row-kept : (r : Row) (p : Float) → Band 7 p → T (rowInP r) → T (lightRow r) → finite (rawSum true r (rawArgument (argumentIn r) p)) ≡ true
 unfolding rawSum
 row-kept (row inP ts) p b i h =
-    total-kept p b 44 zeroF ts (omega arith) (constant 44 zeroF tt) (both-left (every lightTerm ts) (room 44 ts) h) (both-right (every lightTerm ts) (room 44 ts) h)
+    let light = both-left (every lightTerm ts) (room 44 ts) h in
+    total-kept p b 44 zeroF ts (omega arith) (constant 44 zeroF tt) light (both-right (every lightTerm ts) (room 44 ts) h)
 row-kept (row inLn ts) p b i h = absurd i
 
 table-light : (k : ℕ) → T (lightRow (rowAt k))

@@ -1,10 +1,9 @@
 -- A row walked with a check at each step is the row walked raw and checked once: by the rule's powers one law over any row that has a term, and by bare
 -- powers where those are the rule's; what the law wants of a row is computed over the table. So it is of each boundary. Assumes nothing.
-use Prim.Native.Nat.{ℕ, zero, suc}
+use Prim.Native.Nat.{ℕ, zero, suc, _≤_}
 use mathlib.Core.Path.{_≡_, refl, sym, ap, _∙_}
 use mathlib.Core.Bool.{Bool, true, false}
 use mathlib.Core.List.{List, [], _∷_}
-use native.Mathlib.Nat.{le-trans}
 use native.Mathlib.Omega.{arith}
 use lib.Dec.{T, leb}
 use lib.IntN.{ℤ, natAbs}
@@ -22,7 +21,8 @@ use Rattle.inverses.specs.Log.{logarithmRule}
 use Rattle.rules.proofs.Powers.{power-looked}
 use Rattle.rules.proofs.Usual.{usual-raw}
 use Rattle.sizes.specs.Usual.{usualBase}
-use Rattle.boundaries.specs.Boundary.{Term, term, inP, inLn, Row, row, table, termRule, walkRule, at, rowAt, straight3ef, Form, tabled, straight, formOf, formRule, boundaryOf}
+use Rattle.boundaries.specs.Boundary.{Term, term, inP, inLn, Row, row, table, termRule, walkRule, at, rowAt}
+use Rattle.boundaries.specs.Boundary.{straight3ef, Form, tabled, straight, formOf, formRule, boundaryOf}
 use Rattle.boundaries.specs.Raw.{argumentIn, rawArgument, rawTerm, rawSum, rawForm, rawAt, bareAt, bareTerm, Bare}
 use Rattle.boundaries.specs.declared.Boundary.{Boundary}
 use Rattle.boundaries.specs.declared.Boundary.the-variants.{Ab, Cd, Ef, Gh, Ij, Jk, Mn, Op, Qu, Rx, Uv, Wx}
@@ -86,9 +86,12 @@ row-check (row inLn (term i n ∷ ts)) p h = sym (of-outcome i n ts (logarithmRu
 -- ---- the two kinds of powers at a usual x
 
 usual-term : (x : Float) → usualBase x ≡ true → (t : Term) → T (small t) → rawTerm true x t ≡ rawTerm false x t
-usual-term x u (term i n) h = ap (mul binary64 n) (sym (usual-raw x i u (le-leb (natAbs i) 64 (le-trans (leb-true (natAbs i) 4 (T-true (leb (natAbs i) 4) h)) (omega arith)))))
+usual-term x u (term i n) h =
+    let four : natAbs i ≤ 4 = leb-true (natAbs i) 4 (T-true (leb (natAbs i) 4) h) in
+    ap (mul binary64 n) (sym (usual-raw x i u (le-leb (natAbs i) 64 (omega arith))))
 
-usual-total : (x : Float) → usualBase x ≡ true → (z : Float) (ts : List Term) → T (every small ts) → rawTotal (rawTerm true x) z ts ≡ rawTotal (rawTerm false x) z ts
+usual-total : (x : Float) → usualBase x ≡ true → (z : Float) (ts : List Term) → T (every small ts) →
+    rawTotal (rawTerm true x) z ts ≡ rawTotal (rawTerm false x) z ts
 unfolding rawTotal every
 usual-total x u z [] h = refl
 usual-total x u z (t ∷ ts) h =
@@ -139,7 +142,9 @@ table-few k = at-every few table k tt tt
 
 line-check : (p : Float) → check (rawForm false straight p) ≡ straight3ef p
 unfolding straight3ef decimal scaled round ofBits
-line-check p = sym (raw-add (raw-mul (raw-value (decimal 3_727888004 9) refl) (raw-sub-from p (raw-value (decimal 22_064 3) refl))) (raw-value (decimal 647_096 3) refl) .is)
+line-check p =
+    let product = raw-mul (raw-value (decimal 3_727888004 9) refl) (raw-sub-from p (raw-value (decimal 22_064 3) refl)) in
+    sym (raw-add product (raw-value (decimal 647_096 3) refl) .is)
 
 form-check : (f : Form) (p : Float) → check (rawForm false f p) ≡ formRule f p
 form-check (tabled k) p = row-check (rowAt k) p (table-filled k)

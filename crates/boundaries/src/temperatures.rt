@@ -1,5 +1,5 @@
-// The twelve boundaries: a temperature at a pressure. One walk serves every row, by powers of two kinds: bare, with no look at them, which is quick and right
-// where none is lost, or by the rule.
+// The twelve boundaries: a temperature at a pressure. One walk serves every row, by powers of two kinds: by the rule, or bare, with no look at them, which is
+// quicker, and the same where no power is lost.
 use crate::Boundary;
 use crate::table::AB;
 use crate::table::CD;
@@ -87,7 +87,7 @@ fn by_row(k: usize, p: MPa) -> f64
     }
 }
 
-// What the bands ask for at any p.
+// What the bands ask for at any p: four rows, and 3ef.
 pub fn t_3ab(p: MPa) -> f64
     ensures { λ r. ⌜ r ≡ rawAt Ab (p .0) ⌝ }
 {
@@ -119,7 +119,7 @@ pub fn t_3ef(p: MPa) -> f64
     3.727888004 * (p.0 - 22.064) + 647.096
 }
 
-// What they ask for at a p from 19 to 25 MPa, by bare powers: no power of such a p is lost, nor is a sum of them (proofs/Kept).
+// What they ask for at a p from 19 to 25 MPa, by bare powers: no power of such a p is lost, nor is a polynomial in it (proofs/Kept).
 pub fn bare_3cd(p: MPa) -> f64
     ensures { λ r. ⌜ r ≡ bareAt Cd (p .0) ⌝ }
 {

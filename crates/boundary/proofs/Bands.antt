@@ -25,7 +25,8 @@ use Rattle.boundary.specs.Raw.{rawNear, rawCq-rk}
 
 -- One boundary, whose number x checked is what it comes to: what follows it is r if the test b passes and else refused with 5, and so is the whole, if
 -- b and the number's own test pass.
-next : {A : Type 0} {o : Outcome Float} (x : Float) (f : Float → Outcome A) (b : Bool) (r : Outcome A) → check x ≡ o → f x ≡ cond b r (refused 5) → then o f ≡ cond (finite x && b) r (refused 5)
+next : {A : Type 0} {o : Outcome Float} (x : Float) (f : Float → Outcome A) (b : Bool) (r : Outcome A) → check x ≡ o → f x ≡ cond b r (refused 5) →
+    then o f ≡ cond (finite x && b) r (refused 5)
 next x f b r e h = rw (← e) (gate x f b r h)
 
 -- one that is not lost
@@ -59,12 +60,15 @@ module _ (p t : Float) (b : Band 7 p) where
 
   pub clmnopjk-raw : clmnopjkRule p t ≡ rawClmnopjk p t
   unfolding clmnopjkRule every
-  clmnopjk-raw = in-p Cd tt _ _ (in-p Ef tt _ _ (in-p Gh tt _ _ (in-p Ij tt _ _ (in-p Jk tt _ _ (in-p Mn tt _ _ (next (rawAt Op p) _ _ _ (boundary-check Op p) refl))))))
+  clmnopjk-raw =
+      in-p Cd tt _ _ (in-p Ef tt _ _ (in-p Gh tt _ _ (in-p Ij tt _ _ (in-p Jk tt _ _ (in-p Mn tt _ _
+      (next (rawAt Op p) _ _ _ (boundary-check Op p) refl))))))
 
   -- 3uv, 3wx and 3ef, and what follows them
   near-three : (f : Float → Float → Float → Outcome Letter) (d : Bool) (r : Outcome Letter) →
       f (bareAt Uv p) (rawAt Wx p) (rawAt Ef p) ≡ cond d r (refused 5) →
-      then (boundaryOf Uv p) (λ tuv. then (boundaryOf Wx p) (λ twx. then (boundaryOf Ef p) (λ tef. f tuv twx tef))) ≡ cond (finite (rawAt Wx p) && d) r (refused 5)
+      then (boundaryOf Uv p) (λ tuv. then (boundaryOf Wx p) (λ twx. then (boundaryOf Ef p) (λ tef. f tuv twx tef)))
+      ≡ cond (finite (rawAt Wx p) && d) r (refused 5)
   near-three f d r h = in-p Uv tt _ _ (next (rawAt Wx p) _ _ _ (boundary-check Wx p) (in-p Ef tt _ _ h))
 
   pub near-raw : nearRule p t ≡ rawNear p t
@@ -78,7 +82,9 @@ module _ (p t : Float) (b : Band 7 p) where
 
   pub cq-rk-raw : cq-rkRule p t ≡ rawCq-rk p t
   unfolding cq-rkRule
-  cq-rk-raw = in-p Cd tt _ _ (in-p Qu tt _ _ (in-p Rx tt _ _ (in-p Jk tt _ _ (ap (around (bareAt Cd p) (bareAt Qu p) (bareAt Rx p) (bareAt Jk p) t value) near-raw))))
+  cq-rk-raw =
+      in-p Cd tt _ _ (in-p Qu tt _ _ (in-p Rx tt _ _ (in-p Jk tt _ _
+      (ap (around (bareAt Cd p) (bareAt Qu p) (bareAt Rx p) (bareAt Jk p) t value) near-raw))))
 
   pub csrk-raw : csrkRule p t ≡ rawCsrk p t
   unfolding csrkRule every

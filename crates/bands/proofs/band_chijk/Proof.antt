@@ -3,7 +3,13 @@ use borrow.Author.Needs.{needs}
 use Rattle.bands.proofs.band_chijk as own
 
 returns : own.Tie.Need-returns
-returns c = let d = c .before in rw (← d .before .before .before .before .bare-3cd .ensures, ← d .before .before .before .t-3ef .ensures, ← d .before .before .bare-3gh .ensures, ← d .before .bare-3ij .ensures, ← d .bare-3jk .ensures) (c .by-chijk .ensures)
+returns c =
+    let jk = c .before in
+    let ij = jk .before in
+    let gh = ij .before in
+    let ef = gh .before in
+    let cd = ef .before in
+    rw (← cd .bare-3cd .ensures, ← ef .t-3ef .ensures, ← gh .bare-3gh .ensures, ← ij .bare-3ij .ensures, ← jk .bare-3jk .ensures) (c .by-chijk .ensures)
 
 pub band-chijk-spec : {M : Type 1} → own.Statement.statement M
 band-chijk-spec =

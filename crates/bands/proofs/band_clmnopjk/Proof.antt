@@ -4,7 +4,16 @@ use borrow.Author.Needs.{needs}
 use Rattle.bands.proofs.band_clmnopjk as own
 
 returns : own.Tie.Need-returns
-returns c = let d = c .before .before in rw (← d .before .before .before .before .before .before .bare-3cd .ensures, ← d .before .before .before .before .before .t-3ef .ensures, ← d .before .before .before .before .bare-3gh .ensures, ← d .before .before .before .bare-3ij .ensures, ← d .before .before .bare-3jk .ensures, ← d .before .bare-3mn .ensures, ← d .t-3op .ensures) (if-one _ (c .answered .ensures) (c .before .by-clmnopjk .ensures))
+returns c =
+    let op = c .before .before in
+    let mn = op .before in
+    let jk = mn .before in
+    let ij = jk .before in
+    let gh = ij .before in
+    let ef = gh .before in
+    let cd = ef .before in
+    rw (← cd .bare-3cd .ensures, ← ef .t-3ef .ensures, ← gh .bare-3gh .ensures, ← ij .bare-3ij .ensures)
+    (rw (← jk .bare-3jk .ensures, ← mn .bare-3mn .ensures, ← op .t-3op .ensures) (if-one _ (c .answered .ensures) (c .before .by-clmnopjk .ensures)))
 
 pub band-clmnopjk-spec : {M : Type 1} → own.Statement.statement M
 band-clmnopjk-spec =

@@ -4,7 +4,11 @@ use borrow.Author.Needs.{needs}
 use Rattle.bands.proofs.band_csrk as own
 
 returns : own.Tie.Need-returns
-returns c = let d = c .before .before in rw (← d .before .before .bare-3cd .ensures, ← d .before .bare-3jk .ensures, ← d .raw-T-saturation .ensures) (if-one _ (c .answered .ensures) (c .before .by-csrk .ensures))
+returns c =
+    let sat = c .before .before in
+    let jk = sat .before in
+    let cd = jk .before in
+    rw (← cd .bare-3cd .ensures, ← jk .bare-3jk .ensures, ← sat .raw-T-saturation .ensures) (if-one _ (c .answered .ensures) (c .before .by-csrk .ensures))
 
 pub band-csrk-spec : {M : Type 1} → own.Statement.statement M
 band-csrk-spec =

@@ -8,15 +8,21 @@ use Rattle.boundaries.proofs.temperatures.walk as own
 returns : own.Tie.Need-returns
 unfolding rawSum rawTotal ofBits
 returns c =
-    let d = c .before .before in
-    rw (c .enum-told .given .1, d .worked4 .ensures, d .before .worked3 .ensures, d .before .before .worked2 .ensures, d .before .before .before .worked .ensures)
+    let fourth = c .before .before in
+    let third = fourth .before in
+    let second = third .before in
+    let told = c .enum-told .given .1 in
+    rw (told, fourth .worked4 .ensures, third .worked3 .ensures, second .worked2 .ensures, second .before .worked .ensures)
 
 returns-2 : own.Tie.Need-returns-2
 unfolding rawSum rawTotal ofBits
 returns-2 c =
-    let f = c .before .before in
-    let d = f .before .before in
-    rw (f .fifth .given .1, c .worked5 .ensures, d .worked4 .ensures, d .before .worked3 .ensures, d .before .before .worked2 .ensures, d .before .before .before .worked .ensures)
+    let present = c .before .before in
+    let fourth = present .before .before in
+    let third = fourth .before in
+    let second = third .before in
+    let told = present .fifth .given .1 in
+    rw (told, c .worked5 .ensures, fourth .worked4 .ensures, third .worked3 .ensures, second .worked2 .ensures, second .before .worked .ensures)
 
 pub walk-spec : {M : Type 1} → own.Statement.statement M
 walk-spec =
