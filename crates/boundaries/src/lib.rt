@@ -4,19 +4,8 @@ mod table;
 mod temperatures;
 
 pub use temperatures::T_atRegionBoundary;
-pub use temperatures::bare_3cd;
-pub use temperatures::bare_3gh;
-pub use temperatures::bare_3ij;
-pub use temperatures::bare_3jk;
-pub use temperatures::bare_3mn;
-pub use temperatures::bare_3qu;
-pub use temperatures::bare_3rx;
-pub use temperatures::bare_3uv;
-pub use temperatures::t_3ab;
-pub use temperatures::t_3cd;
-pub use temperatures::t_3ef;
-pub use temperatures::t_3op;
-pub use temperatures::t_3wx;
+pub use temperatures::bare_boundary;
+pub use temperatures::raw_boundary;
 
 // A boundary between two subregions.
 pub enum Boundary {

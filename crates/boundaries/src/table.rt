@@ -22,8 +22,8 @@ pub struct Row {
     pub t5: Fifth,
 }
 
-// The place of each boundary's row. It is a plain number, so that the compiler knows the row wherever one is asked for, and its constants go there; no
-// place leaves the crate.
+// The place of each boundary's row. It is a plain number, so that the compiler knows the row wherever one is asked for, and its constants go there; other
+// crates ask by a boundary's name.
 pub const AB: usize = 0;
 
 pub const CD: usize = 1;

@@ -28,11 +28,10 @@ use rules::bare_power;
 use rules::raw_power;
 use sizes::usual;
 ghost use mathlib.Core.Path.{_≡_};
-ghost use mathlib.Core.Bool.{false};
 ghost use Rattle.common.specs.Answer.{paper};
-ghost use Rattle.boundaries.specs.Boundary.{tabled, rowAt, boundaryRule};
+ghost use Rattle.boundaries.specs.Boundary.{tabled, rowAt, formOf, boundaryRule};
 ghost use Rattle.boundaries.specs.Raw.{argumentOf, termOf, rowOf, rawArgument, rawTerm, rawSum, rawForm, rawAt, bareAt};
-ghost use Rattle.boundaries.specs.declared.Boundary.the-variants.{Ab, Cd, Ef, Gh, Ij, Jk, Mn, Op, Qu, Rx, Uv, Wx};
+ghost use Rattle.boundaries.specs.declared.Boundary.the-variants.{Ef};
 
 // What a row's sum is in.
 fn argument(ln: bool, p: f64) -> f64
@@ -75,11 +74,14 @@ fn walk_at(k: usize, bare: bool, x: f64) -> f64
     walk(row_at(k), bare, x)
 }
 
-// The temperature by the row at place k, at any p; a number that is lost travels as itself.
-fn by_row(k: usize, p: MPa) -> f64
-    ensures { λ r. ⌜ r ≡ rawForm false (tabled k) (p .0) ⌝ }
+// The temperature by the row at place k. Where bare powers are not asked for, they are taken all the same at a usual argument, at which they are the rule's.
+fn by_row(k: usize, bare: bool, p: MPa) -> f64
+    ensures { λ r. ⌜ r ≡ rawForm bare (tabled k) (p .0) ⌝ }
 {
     let x = argument(row_at(k).ln, p.0);
+    if bare {
+        return walk_at(k, true, x);
+    }
     if usual(x) {
         walk_at(k, true, x)
     } else {
@@ -87,105 +89,45 @@ fn by_row(k: usize, p: MPa) -> f64
     }
 }
 
-// What the bands ask for at any p: four rows, and 3ef.
-pub fn t_3ab(p: MPa) -> f64
-    ensures { λ r. ⌜ r ≡ rawAt Ab (p .0) ⌝ }
-{
-    by_row(AB, p)
-}
-
-pub fn t_3cd(p: MPa) -> f64
-    ensures { λ r. ⌜ r ≡ rawAt Cd (p .0) ⌝ }
-{
-    by_row(CD, p)
-}
-
-pub fn t_3op(p: MPa) -> f64
-    ensures { λ r. ⌜ r ≡ rawAt Op (p .0) ⌝ }
-{
-    by_row(OP, p)
-}
-
-pub fn t_3wx(p: MPa) -> f64
-    ensures { λ r. ⌜ r ≡ rawAt Wx (p .0) ⌝ }
-{
-    by_row(WX, p)
-}
-
 // 3ef: equation 3; 713.9593992 K at 40 MPa.
-pub fn t_3ef(p: MPa) -> f64
+fn t_3ef(p: MPa) -> f64
     ensures { λ r. ⌜ r ≡ rawAt Ef (p .0) ⌝ }
 {
     3.727888004 * (p.0 - 22.064) + 647.096
 }
 
-// What they ask for at a p from 19 to 25 MPa, by bare powers: no power of such a p is lost, nor is a polynomial in it (proofs/Kept).
-pub fn bare_3cd(p: MPa) -> f64
-    ensures { λ r. ⌜ r ≡ bareAt Cd (p .0) ⌝ }
-{
-    walk_at(CD, true, p.0)
-}
-
-pub fn bare_3gh(p: MPa) -> f64
-    ensures { λ r. ⌜ r ≡ bareAt Gh (p .0) ⌝ }
-{
-    walk_at(GH, true, p.0)
-}
-
-pub fn bare_3ij(p: MPa) -> f64
-    ensures { λ r. ⌜ r ≡ bareAt Ij (p .0) ⌝ }
-{
-    walk_at(IJ, true, p.0)
-}
-
-pub fn bare_3jk(p: MPa) -> f64
-    ensures { λ r. ⌜ r ≡ bareAt Jk (p .0) ⌝ }
-{
-    walk_at(JK, true, p.0)
-}
-
-pub fn bare_3mn(p: MPa) -> f64
-    ensures { λ r. ⌜ r ≡ bareAt Mn (p .0) ⌝ }
-{
-    walk_at(MN, true, p.0)
-}
-
-pub fn bare_3qu(p: MPa) -> f64
-    ensures { λ r. ⌜ r ≡ bareAt Qu (p .0) ⌝ }
-{
-    walk_at(QU, true, p.0)
-}
-
-pub fn bare_3rx(p: MPa) -> f64
-    ensures { λ r. ⌜ r ≡ bareAt Rx (p .0) ⌝ }
-{
-    walk_at(RX, true, p.0)
-}
-
-pub fn bare_3uv(p: MPa) -> f64
-    ensures { λ r. ⌜ r ≡ bareAt Uv (p .0) ⌝ }
-{
-    walk_at(UV, true, p.0)
-}
-
 // The temperature by the boundary's name.
-fn raw_boundary(b: Boundary, p: MPa) -> f64
-    ensures { λ r. ⌜ r ≡ rawAt b (p .0) ⌝ }
+fn number(b: Boundary, bare: bool, p: MPa) -> f64
+    ensures { λ r. ⌜ r ≡ rawForm bare (formOf b) (p .0) ⌝ }
 {
     match b {
-        Boundary::Ab => by_row(AB, p),
-        Boundary::Cd => by_row(CD, p),
+        Boundary::Ab => by_row(AB, bare, p),
+        Boundary::Cd => by_row(CD, bare, p),
         Boundary::Ef => t_3ef(p),
-        Boundary::Gh => by_row(GH, p),
-        Boundary::Ij => by_row(IJ, p),
-        Boundary::Jk => by_row(JK, p),
-        Boundary::Mn => by_row(MN, p),
-        Boundary::Op => by_row(OP, p),
-        Boundary::Qu => by_row(QU, p),
-        Boundary::Rx => by_row(RX, p),
-        Boundary::Uv => by_row(UV, p),
-        Boundary::Wx => by_row(WX, p),
+        Boundary::Gh => by_row(GH, bare, p),
+        Boundary::Ij => by_row(IJ, bare, p),
+        Boundary::Jk => by_row(JK, bare, p),
+        Boundary::Mn => by_row(MN, bare, p),
+        Boundary::Op => by_row(OP, bare, p),
+        Boundary::Qu => by_row(QU, bare, p),
+        Boundary::Rx => by_row(RX, bare, p),
+        Boundary::Uv => by_row(UV, bare, p),
+        Boundary::Wx => by_row(WX, bare, p),
     }
+}
+
+// The temperature at any p, for calls that test it themselves: a number that is lost travels as itself.
+pub fn raw_boundary(b: Boundary, p: MPa) -> f64
+    ensures { λ r. ⌜ r ≡ rawAt b (p .0) ⌝ }
+{
+    number(b, false, p)
+}
+
+// The same by bare powers: at a p from 19 to 25 MPa no power of p is lost, nor is a polynomial in it (proofs/Kept).
+pub fn bare_boundary(b: Boundary, p: MPa) -> f64
+    ensures { λ r. ⌜ r ≡ bareAt b (p .0) ⌝ }
+{
+    number(b, true, p)
 }
 
 // The temperature at the boundary in K.

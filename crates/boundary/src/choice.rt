@@ -9,13 +9,9 @@ use bands::band_csrk;
 use bands::band_cst;
 use bands::band_ct;
 use border::check_region3;
-use boundaries::bare_3cd;
-use boundaries::bare_3jk;
-use boundaries::bare_3qu;
-use boundaries::bare_3rx;
-use boundaries::bare_3uv;
-use boundaries::t_3ef;
-use boundaries::t_3wx;
+use boundaries::Boundary;
+use boundaries::bare_boundary;
+use boundaries::raw_boundary;
 use choosers::Near;
 use choosers::by_saturated;
 use choosers::by_uvwx;
@@ -57,9 +53,9 @@ fn up_to_22_11(tuv: f64, twx: f64, tef: f64, p: MPa, t: Kelvin) -> LetterAnswer
 fn band_near(p: MPa, t: Kelvin) -> LetterAnswer
     ensures { λ r. ⌜ paperLetter r ≡ rawNear (p .0) (t .0) ⌝ }
 {
-    let tuv = bare_3uv(p);
-    let twx = t_3wx(p);
-    let tef = t_3ef(p);
+    let tuv = bare_boundary(Boundary::Uv, p);
+    let twx = raw_boundary(Boundary::Wx, p);
+    let tef = raw_boundary(Boundary::Ef, p);
     if p.0 > 22.11 {
         return answered(by_uvwx(Kelvin(tuv), Kelvin(tef), Kelvin(twx), t), twx);
     }
@@ -69,10 +65,10 @@ fn band_near(p: MPa, t: Kelvin) -> LetterAnswer
 fn band_cq_rk(p: MPa, t: Kelvin) -> LetterAnswer
     ensures { λ r. ⌜ paperLetter r ≡ rawCq-rk (p .0) (t .0) ⌝ }
 {
-    let tcd = bare_3cd(p);
-    let tqu = bare_3qu(p);
-    let trx = bare_3rx(p);
-    let tjk = bare_3jk(p);
+    let tcd = bare_boundary(Boundary::Cd, p);
+    let tqu = bare_boundary(Boundary::Qu, p);
+    let trx = bare_boundary(Boundary::Rx, p);
+    let tjk = bare_boundary(Boundary::Jk, p);
     match round_critical(Kelvin(tcd), Kelvin(tqu), Kelvin(trx), Kelvin(tjk), t) {
         Near::Found(l) => LetterAnswer::Value(l),
         Near::Inside => band_near(p, t),

@@ -8,7 +8,7 @@ returns c =
     let ef = c .before .before in
     let cd = ef .before in
     let ab = cd .before in
-    rw (← ab .t-3ab .ensures, ← cd .t-3cd .ensures, ← ef .t-3ef .ensures) (if-all _ _ (c .answered .ensures) (c .before .by-cdef .ensures))
+    rw (← ab .raw-boundary .ensures, ← cd .raw-boundary2 .ensures, ← ef .raw-boundary3 .ensures) (if-all _ _ (c .answered .ensures) (c .before .by-cdef .ensures))
 
 pub band-cdef-spec : {M : Type 1} → own.Statement.statement M
 band-cdef-spec =

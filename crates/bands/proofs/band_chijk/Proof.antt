@@ -9,7 +9,7 @@ returns c =
     let gh = ij .before in
     let ef = gh .before in
     let cd = ef .before in
-    rw (← cd .bare-3cd .ensures, ← ef .t-3ef .ensures, ← gh .bare-3gh .ensures, ← ij .bare-3ij .ensures, ← jk .bare-3jk .ensures) (c .by-chijk .ensures)
+    rw (← cd .bare-boundary .ensures, ← ef .raw-boundary .ensures, ← gh .bare-boundary2 .ensures, ← ij .bare-boundary3 .ensures, ← jk .bare-boundary4 .ensures) (c .by-chijk .ensures)
 
 pub band-chijk-spec : {M : Type 1} → own.Statement.statement M
 band-chijk-spec =

@@ -12,8 +12,8 @@ returns c =
     let gh = ij .before in
     let ef = gh .before in
     let cd = ef .before in
-    rw (← cd .bare-3cd .ensures, ← ef .t-3ef .ensures, ← gh .bare-3gh .ensures, ← ij .bare-3ij .ensures)
-    (rw (← jk .bare-3jk .ensures, ← mn .bare-3mn .ensures, ← op .t-3op .ensures) (if-one _ (c .answered .ensures) (c .before .by-clmnopjk .ensures)))
+    rw (← cd .bare-boundary .ensures, ← ef .raw-boundary .ensures, ← gh .bare-boundary2 .ensures, ← ij .bare-boundary3 .ensures)
+    (rw (← jk .bare-boundary4 .ensures, ← mn .bare-boundary5 .ensures, ← op .raw-boundary2 .ensures) (if-one _ (c .answered .ensures) (c .before .by-clmnopjk .ensures)))
 
 pub band-clmnopjk-spec : {M : Type 1} → own.Statement.statement M
 band-clmnopjk-spec =

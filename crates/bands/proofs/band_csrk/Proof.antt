@@ -8,7 +8,7 @@ returns c =
     let sat = c .before .before in
     let jk = sat .before in
     let cd = jk .before in
-    rw (← cd .bare-3cd .ensures, ← jk .bare-3jk .ensures, ← sat .raw-T-saturation .ensures) (if-one _ (c .answered .ensures) (c .before .by-csrk .ensures))
+    rw (← cd .bare-boundary .ensures, ← jk .bare-boundary2 .ensures, ← sat .raw-T-saturation .ensures) (if-one _ (c .answered .ensures) (c .before .by-csrk .ensures))
 
 pub band-csrk-spec : {M : Type 1} → own.Statement.statement M
 band-csrk-spec =

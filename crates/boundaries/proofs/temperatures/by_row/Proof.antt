@@ -14,16 +14,25 @@ x-is c = c .argument .ensures ∙ ap (λ (r : Row). rawArgument (argumentIn r) (
 
 returns : own.Tie.Need-returns
 returns c =
-    let d = c .before .before .before in
-    let k = d .before .before .args .k in
-    let x = d .argument .result in
-    let u : usualBase x ≡ true = sym (c .before .before .usual .ensures) ∙ c .before .if1 .taken in
-    c .walk-at .ensures ∙ usual-sum (rowAt k) x u (table-few k) ∙ ap (rawSum false (rowAt k)) (x-is d)
+    let d = c .before .before in
+    rw (c .before .if1 .taken) (c .walk-at .ensures ∙ ap (rawSum true (rowAt (d .before .before .args .k))) (x-is d))
 
 returns-2 : own.Tie.Need-returns-2
-returns-2 c = c .walk-at2 .ensures ∙ ap (rawSum false (rowAt (c .before .before .before .before .before .args .k))) (x-is (c .before .before .before))
+returns-2 c =
+    let i = c .before .before .before in
+    let d = i .before in
+    let k = d .before .before .args .k in
+    let x = d .argument .result in
+    let u : usualBase x ≡ true = sym (c .before .before .usual .ensures) ∙ c .before .if2 .taken in
+    rw (i .if1 .left) (c .walk-at2 .ensures ∙ usual-sum (rowAt k) x u (table-few k) ∙ ap (rawSum false (rowAt k)) (x-is d))
+
+returns-3 : own.Tie.Need-returns-3
+returns-3 c =
+    let i = c .before .before .before in
+    let d = i .before in
+    rw (i .if1 .left) (c .walk-at3 .ensures ∙ ap (rawSum false (rowAt (d .before .before .args .k))) (x-is d))
 
 pub by-row-spec : {M : Type 1} → own.Statement.statement M
 by-row-spec =
-    own.Tie.close (own.Tie.spec (λ c κs. search needs) (λ c κs. search needs) (λ c κs. search needs) (λ c κs. search needs) (λ c κs. search needs) returns
-    returns-2)
+    own.Tie.close (own.Tie.spec (λ c κs. search needs) (λ c κs. search needs) (λ c κs. search needs) returns (λ c κs. search needs) (λ c κs. search needs)
+    (λ c κs. search needs) returns-2 returns-3)

@@ -10,7 +10,7 @@ returns c =
     let rx = jk .before in
     let qu = rx .before in
     let cd = qu .before in
-    rw (← cd .bare-3cd .ensures, ← qu .bare-3qu .ensures, ← rx .bare-3rx .ensures, ← jk .bare-3jk .ensures)
+    rw (← cd .bare-boundary .ensures, ← qu .bare-boundary2 .ensures, ← rx .bare-boundary3 .ensures, ← jk .bare-boundary4 .ensures)
     (rw (around-or, ← n .round-critical .ensures, c .before .l .given .1))
 
 returns-2 : own.Tie.Need-returns-2
@@ -20,7 +20,7 @@ returns-2 c =
     let rx = jk .before in
     let qu = rx .before in
     let cd = qu .before in
-    rw (← cd .bare-3cd .ensures, ← qu .bare-3qu .ensures, ← rx .bare-3rx .ensures, ← jk .bare-3jk .ensures)
+    rw (← cd .bare-boundary .ensures, ← qu .bare-boundary2 .ensures, ← rx .bare-boundary3 .ensures, ← jk .bare-boundary4 .ensures)
     (rw (around-or, ← n .round-critical .ensures, c .before .enum-told .given .1) (c .band-near .ensures))
 
 pub band-cq-rk-spec : {M : Type 1} → own.Statement.statement M

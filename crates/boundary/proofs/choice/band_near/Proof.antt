@@ -12,7 +12,7 @@ returns c =
     let ef = i .before .before in
     let wx = ef .before in
     let uv = wx .before in
-    rw (← uv .bare-3uv .ensures, ← wx .t-3wx .ensures, ← ef .t-3ef .ensures, i .if1 .taken) (if-one _ (c .answered .ensures) (c .before .by-uvwx .ensures))
+    rw (← uv .bare-boundary .ensures, ← wx .raw-boundary .ensures, ← ef .raw-boundary2 .ensures, i .if1 .taken) (if-one _ (c .answered .ensures) (c .before .by-uvwx .ensures))
 
 returns-2 : own.Tie.Need-returns-2
 unfolding decimal scaled round ofBits
@@ -21,7 +21,7 @@ returns-2 c =
     let ef = i .before .before in
     let wx = ef .before in
     let uv = wx .before in
-    rw (← uv .bare-3uv .ensures, ← wx .t-3wx .ensures, ← ef .t-3ef .ensures, i .if1 .left) (c .up-to-22-11 .ensures)
+    rw (← uv .bare-boundary .ensures, ← wx .raw-boundary .ensures, ← ef .raw-boundary2 .ensures, i .if1 .left) (c .up-to-22-11 .ensures)
 
 pub band-near-spec : {M : Type 1} → own.Statement.statement M
 band-near-spec =

@@ -1,0 +1,6 @@
+-- `boundaries::temperatures::bare_boundary` meets its contract: the number by bare powers. Assumes nothing.
+use borrow.Author.Needs.{needs}
+use Rattle.boundaries.proofs.temperatures.bare_boundary as own
+
+pub bare-boundary-spec : {M : Type 1} → own.Statement.statement M
+bare-boundary-spec = own.Tie.close (own.Tie.spec (λ c κs. search needs) (λ c. c .number .ensures))
