@@ -142,10 +142,10 @@ written-next f b w lo k x l m e h =
 pub written-same : (a : Float) (b w : List Float) (lo hi hi' : ℕ) → hi ≡ hi' → Written a b w lo hi → Written a b w lo hi'
 written-same a b w lo hi hi' e f = rw e at f
 
-pub written-one : (a : Float) (w : List Float) → length w ≡ 129 → Written a w (set w 64 one) 64 65
-written-one a w e =
-    written-set (rawPower a) w w 64 64 64 one (record { held = has-none (rawPower a) w 64 e; rest = λ k out. refl }) 64 65 (filled-one a w e) (omega arith) (omega arith)
-    (λ k m n. absurd (omega arith))
+pub written-one : (a : Float) (w v : List Float) → length w ≡ 129 → v ≡ set w 64 one → Written a w v 64 65
+written-one a w v e h =
+    rw h (written-set (rawPower a) w w 64 64 64 one (written-none (rawPower a) w 64 e) 64 65 (filled-one a w e) (omega arith) (omega arith)
+    (λ k m n. absurd (omega arith)))
 
 pub written-up : (a : Float) (b w : List Float) (h k : ℕ) → h ≤ 31 → k < 2 ^ h → 2 ^ h + k < 65 → Written a b w 64 (64 + 2 ^ h + k)
     → Written a b (set w (64 + 2 ^ h + k) (mul binary64 (getD w (64 + k) nan) (squared h a))) 64 (64 + 2 ^ h + (k + 1))

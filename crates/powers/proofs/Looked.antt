@@ -7,7 +7,6 @@ use native.Mathlib.Omega.{arith}
 use lib.Dec.{T, leb, leb→le, ltb→lt}
 use lib.IntN.{ℤ, pos, negsuc, natAbs, _+ℤ_}
 use lib.Signed.{ltZ}
-use lib.ListN.{length}
 use lib.Ieee.{Float}
 use borrow.Author.Tests.{le-ltb, le-leb, lt-leb, ltb-true, ltb-false, leb-true}
 use Rattle.common.specs.Outcome.{finite, check, inside}
@@ -83,11 +82,11 @@ holds a f b w u d p e n g t = by (leb (natAbs n) 64) refl
     by true s = e n g s ∙ ap check (sym (looked f b w u d p n s t))
     by false s = rw (g, s)
 
-pub powers-hold : (a : Float) (b w : List Float) (u d : ℕ) → length b ≡ 129 → Powers a b w u d → Holds a w u d
-powers-hold a b w u d l p =
-    holds a (ruled a) b w u d (p .stand l) (λ n f s. sym (raw-inside (powerRule a n) (lookedPower a n) (power-looked a n f s)))
+pub powers-hold : (a : Float) (b w : List Float) (u d : ℕ) → Powers a b w u d → Holds a w u d
+powers-hold a b w u d p =
+    holds a (ruled a) b w u d p (λ n f s. sym (raw-inside (powerRule a n) (lookedPower a n) (power-looked a n f s)))
 
 -- at a usual base no power needs a look
-pub bare-hold : (a : Float) (b w : List Float) (u d : ℕ) → usualBase a ≡ true → length b ≡ 129 → BarePowers a b w u d → Holds a w u d
-bare-hold a b w u d h l p =
-    holds a (rawPower a) b w u d (p .stand l) (λ n f s. ap inside (power-usual a n h s) ∙ inside-check (rawPower a n))
+pub bare-hold : (a : Float) (b w : List Float) (u d : ℕ) → usualBase a ≡ true → BarePowers a b w u d → Holds a w u d
+bare-hold a b w u d h p =
+    holds a (rawPower a) b w u d p (λ n f s. ap inside (power-usual a n h s) ∙ inside-check (rawPower a n))

@@ -7,8 +7,9 @@ use sizes::usual;
 ghost use mathlib.Core.Path.{_≡_};
 ghost use mathlib.Core.List.{List};
 ghost use Prim.Native.Nat.{ℕ, _+_, _-_, _<_, _≤_, _^_};
-ghost use lib.ListN.{length};
+ghost use lib.ListN.{length, set};
 ghost use lib.Ieee.{Float};
+ghost use Rattle.rules.specs.Power.{one};
 ghost use Rattle.powers.specs.Powers.{Written, WrittenBy, BarePowers, Powers, ruled, capped, exponentAt, lookedUp};
 ghost use Rattle.powers.specs.Reach.{squared};
 
@@ -24,12 +25,20 @@ fn double(half: usize, count: usize, sq: f64, w: &mut [f64; 129])
     }
 }
 
+// The power 0. That the table behind a reference has its 129 places is known where it is lent as a slice, as here and in `fill_by_rule`.
+fn put_one(w: &mut [f64])
+    requires { ⌜ 64 < length (now w) ⌝ }
+    ensures { λ _. ⌜ now (w .exit) ≡ set (now (w .entry)) 64 one ⌝ }
+{
+    w[64] = 1.0;
+}
+
 // The powers of a from 0 to `top`, or to 7.
 fn fill_up(a: f64, top: usize, w: &mut [f64; 129])
     requires { ⌜ top ≤ 64 ⌝ }
-    ensures { λ _. ⌜ (length (now (w .entry)) ≡ 129 → Written a (now (w .entry)) (now (w .exit)) 64 (72 + (top - 7))) ⌝ }
+    ensures { λ _. ⌜ Written a (now (w .entry)) (now (w .exit)) 64 (72 + (top - 7)) ⌝ }
 {
-    w[64] = 1.0;
+    put_one(w);
     double(1, 1, a, w);
     let a2 = a * a;
     double(2, 2, a2, w);
@@ -99,9 +108,9 @@ fn exponent_at(k: usize) -> i32
 }
 
 // The powers of any base that stand from `lo` to below `hi`, one by one.
-fn fill_by_rule(a: f64, lo: usize, hi: usize, w: &mut [f64; 129])
-    requires { ⌜ (lo ≤ hi) × (hi ≤ 129) ⌝ }
-    ensures { λ _. ⌜ (length (now (w .entry)) ≡ 129 → WrittenBy (ruled a) (now (w .entry)) (now (w .exit)) lo hi) ⌝ }
+fn fill_by_rule(a: f64, lo: usize, hi: usize, w: &mut [f64])
+    requires { ⌜ (lo ≤ hi) × (hi ≤ 129) × (length (now w) ≡ 129) ⌝ }
+    ensures { λ _. ⌜ WrittenBy (ruled a) (now (w .entry)) (now (w .exit)) lo hi ⌝ }
 {
     let mut k = lo;
     while k < hi {
