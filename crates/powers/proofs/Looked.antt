@@ -58,7 +58,8 @@ within-top : (k h : ℕ) → k ≤ h → 64 + k < 72 + (h - 7)
 within-top k h l = omega arith
 
 -- the power n as f has it
-looked : (f : ℤ → Float) (b w : List Float) (u d : ℕ) → WrittenBy f b w (64 - capped d) (72 + (highest u d - 7)) → (n : ℤ) → leb (natAbs n) 64 ≡ true → T (spans u d n) → lookedUp w n ≡ f n
+looked : (f : ℤ → Float) (b w : List Float) (u d : ℕ) → WrittenBy f b w (64 - capped d) (72 + (highest u d - 7)) →
+    (n : ℤ) → leb (natAbs n) 64 ≡ true → T (spans u d n) → lookedUp w n ≡ f n
 looked f b w u d p (pos k) s t =
     let l : k ≤ 64 = leb-true k 64 s in
     let m : k ≤ u = leb→le k u t in

@@ -16,7 +16,8 @@ ghost use Rattle.powers.specs.Reach.{squared};
 // The first powers of a base make as many of the next, or fewer: w[k + half] = w[k] * sq, with sq the power at half.
 fn double(half: usize, count: usize, sq: f64, w: &mut [f64; 129])
     requires { ⌜ (count ≤ half) × (half + count ≤ 65) ⌝ }
-    ensures { λ _. ⌜ ((a : Float) (b : List Float) (h : ℕ) → h ≤ 31 → half ≡ 2 ^ h → sq ≡ squared h a → Written a b (now (w .entry)) 64 (64 + half) → Written a b (now (w .exit)) 64 (64 + half + count)) ⌝ }
+    ensures { λ _. ⌜ ((a : Float) (b : List Float) (h : ℕ) → h ≤ 31 → half ≡ 2 ^ h → sq ≡ squared h a →
+        Written a b (now (w .entry)) 64 (64 + half) → Written a b (now (w .exit)) 64 (64 + half + count)) ⌝ }
 {
     let mut k: usize = 0;
     while k < count {
@@ -64,7 +65,8 @@ fn fill_up(a: f64, top: usize, w: &mut [f64; 129])
 // The powers from -1 to -low.
 fn fill_down(low: u32, w: &mut [f64; 129])
     requires { ⌜ low ≤ 64 ⌝ }
-    ensures { λ _. ⌜ ((a : Float) (b : List Float) (hi : ℕ) → 65 + low ≤ hi → Written a b (now (w .entry)) 64 hi → Written a b (now (w .exit)) (64 - low) hi) ⌝ }
+    ensures { λ _. ⌜ ((a : Float) (b : List Float) (hi : ℕ) → 65 + low ≤ hi →
+        Written a b (now (w .entry)) 64 hi → Written a b (now (w .exit)) (64 - low) hi) ⌝ }
 {
     let mut k: u32 = 0;
     while k < low {
