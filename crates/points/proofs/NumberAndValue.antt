@@ -2,12 +2,16 @@
 -- the number 0, so where an answer r is as a rule has it, every answer that is told as the rule is told is as the rule has it (`SamePromise`). Assumes nothing.
 use Prim.Native.Nat.{ℕ}
 use mathlib.Core.Path.{_≡_, refl, sym, ap, _∙_, subst}
+use mathlib.Core.List.{List}
 use mathlib.Core.Option.{Option, none, some, Option·some-injective, Option·none-ne-some, Option·some-ne-none}
 use native.Mathlib.Omega.{arith}
+use contract.Lifetimes.{Lfts}
+use denote.Triple.Clauses.{AtExit}
+use borrow.Fn.Kinds.{PK, RK, Out, Dens, endedOf, resT}
 use Rattle.common.specs.Outcome.{Outcome, value, refused, numberAndValue}
 use Rattle.common.specs.Answer.{numberOf, paper, paperVerdict}
 use Rattle.common.specs.declared.Refusal.{Refusal}
-use Rattle.common.specs.declared.Refusal.the-variants as refusals
+use Rattle.common.specs.declared.Refusal.the-variants.{NotFinite, First, Second, State, Step, Property, Columns, Border, Unfound}
 use Rattle.common.specs.declared.Answer.{Answer}
 use Rattle.common.specs.declared.Answer.the-variants as answers
 use Rattle.common.specs.declared.Verdict.{Verdict}
@@ -62,6 +66,8 @@ use Rattle.exchange_entry.specs.declared.ExchangeRefusal.the-variants as exchan
 use Rattle.exchange_entry.specs.declared.ExchangeVerdict.{ExchangeVerdict}
 use Rattle.exchange_entry.specs.declared.ExchangeVerdict.the-variants as exchanges
 use Rattle.exchange_entry.specs.Call.{heard}
+use Rattle.volume_at.proofs as calls
+use Rattle.exchange_writer.proofs as writer
 use Rattle.points.specs.Told.{
   toldBy,
   toldKind,
@@ -120,15 +126,15 @@ module _ {R A : Type 0} (read : R → Outcome A) (numbered : (r : R) → Numbere
 -- ---- no refusal has the number 0
 
 not-0 : (k : Refusal) → numberOf k ≡ 0 → ⊥
-not-0 refusals.NotFinite e = omega arith
-not-0 refusals.First e = omega arith
-not-0 refusals.Second e = omega arith
-not-0 refusals.State e = omega arith
-not-0 refusals.Step e = omega arith
-not-0 refusals.Property e = omega arith
-not-0 refusals.Columns e = omega arith
-not-0 refusals.Border e = omega arith
-not-0 refusals.Unfound e = omega arith
+not-0 NotFinite e = omega arith
+not-0 First e = omega arith
+not-0 Second e = omega arith
+not-0 State e = omega arith
+not-0 Step e = omega arith
+not-0 Property e = omega arith
+not-0 Columns e = omega arith
+not-0 Border e = omega arith
+not-0 Unfound e = omega arith
 
 read-not-0 : (k : ReadRefusal) → readNumber k ≡ 0 → ⊥
 read-not-0 read-refusals.PastEnd e = omega arith
@@ -286,3 +292,19 @@ exchange-by-told (exchanges.Refused (exchange-refusals.Entry p j)) (exchanges.Re
 
 pub exchange-told : SamePromise heard toldExchange
 exchange-told o r s e t = exchange-by-told r s (t ∙ ap toldExchange (sym e)) ∙ e
+
+-- ---- on the contracts as they are generated: an answer that is told as one that meets the contract meets it too. Three calls, one for each shape of value;
+-- every other contract on an answer goes by the same line
+
+abbrev ByTold : (ps : List (PK 0)) (r : RK 0) → Out 0 ps r → {T : Type 0} → ((κs : Lfts 0) → resT r κs .Denot → T) → Type 0
+ByTold ps r post told =
+    (κs : Lfts 0) (a : Dens κs ps) (e : AtExit (endedOf 0 ps r) κs) (x y : resT r κs .Denot) → post κs a x e → told κs y ≡ told κs x → post κs a y e
+
+pub pT2v-reg3-by-told : ByTold calls.pT2v_reg3.Kinds.ps calls.pT2v_reg3.Kinds.r calls.pT2v_reg3.Reads.Post (λ κs x. toldFloat (paper x))
+pT2v-reg3-by-told κs a e x y p t = answer-told _ x y p (t ∙ ap toldFloat p)
+
+pub found-pT-by-told : ByTold calls.found_pT.Kinds.ps calls.found_pT.Kinds.r calls.found_pT.Reads.Post (λ κs x. toldState (paperState x))
+found-pT-by-told κs a e x y p t = state-told _ x y p (t ∙ ap toldState p)
+
+pub pair-by-by-told : ByTold writer.pair_by.Kinds.ps writer.pair_by.Kinds.r writer.pair_by.Reads.Post (λ κs x. toldPair (paperPair x))
+pair-by-by-told κs a e x y p t = pair-told _ x y p (t ∙ ap toldPair p)
