@@ -1,9 +1,9 @@
 -- A promise on an outcome and one on the number and the values that a caller is told are the same promise, for every answer that is an enum. No refusal has
 -- the number 0, so where an answer r is as a rule has it, every answer that is told as the rule is told is as the rule has it (`SamePromise`). Assumes nothing.
 use Prim.Native.Nat.{ℕ}
-use mathlib.Core.Path.{_≡_, refl, sym, ap, _∙_, subst}
+use mathlib.Core.Path.{_≡_, sym, ap, _∙_, subst}
 use mathlib.Core.List.{List}
-use mathlib.Core.Option.{Option, none, some, Option·some-injective, Option·none-ne-some, Option·some-ne-none}
+use mathlib.Core.Option.{none, some, Option·some-injective, Option·none-ne-some, Option·some-ne-none}
 use native.Mathlib.Omega.{arith}
 use contract.Lifetimes.{Lfts}
 use denote.Triple.Clauses.{AtExit}
@@ -52,7 +52,6 @@ use Rattle.exchange_record.specs.declared.ReadRefusal.{ReadRefusal}
 use Rattle.exchange_record.specs.declared.ReadRefusal.the-variants as read-refusals
 use Rattle.exchange_record.specs.declared.ReadAnswer.{ReadAnswer}
 use Rattle.exchange_record.specs.declared.ReadAnswer.the-variants as reads
-use Rattle.exchange_record.specs.declared.Asked.{Asked}
 use Rattle.exchange_record.specs.declared.Pair.{Pair}
 use Rattle.exchange_record.specs.Reading.{readNumber, paperRead}
 use Rattle.exchange_writer.specs.declared.WriteRefusal.{WriteRefusal}
@@ -73,10 +72,10 @@ use Rattle.points.specs.Told.{
   toldKind,
   toldFloat,
   toldVerdict,
-  toldLetter,
-  toldOrigin,
-  toldSide,
-  toldPair,
+  toldKind,
+  toldKind,
+  toldKind,
+  toldKind,
   toldState,
   toldTvd,
   toldTwoSums,
@@ -167,14 +166,14 @@ letter-numbered : (r : LetterAnswer) → Numbered (paperLetter r)
 letter-numbered (letters.Value l) = tt
 letter-numbered (letters.Refused k) = not-0 k
 
-pub letter-told : SamePromise paperLetter toldLetter
+pub letter-told : SamePromise paperLetter toldKind
 letter-told = by-kind paperLetter letter-numbered
 
 origin-numbered : (r : OriginAnswer) → Numbered (paperOrigin r)
 origin-numbered (origins.Value o) = tt
 origin-numbered (origins.Refused k) = not-0 k
 
-pub origin-told : SamePromise paperOrigin toldOrigin
+pub origin-told : SamePromise paperOrigin toldKind
 origin-told = by-kind paperOrigin origin-numbered
 
 state-numbered : (r : StateAnswer) → Numbered (paperState r)
@@ -190,7 +189,7 @@ side-numbered : (r : SideAnswer) → Numbered (paperSide r)
 side-numbered (sides.Value x) = tt
 side-numbered (sides.Refused k) = not-0 k
 
-pub side-told : SamePromise paperSide toldSide
+pub side-told : SamePromise paperSide toldKind
 side-told = by-kind paperSide side-numbered
 
 tvd-numbered : (r : TvdAnswer) → Numbered (paperTvd r)
@@ -271,7 +270,7 @@ pair-numbered : (r : PairAnswer) → Numbered (paperPair r)
 pair-numbered (named.Value p) = tt
 pair-numbered named.Unknown = λ e. omega arith
 
-pub pair-told : SamePromise paperPair toldPair
+pub pair-told : SamePromise paperPair toldKind
 pair-told = by-kind paperPair pair-numbered
 
 -- the answer to an exchange record has two outcomes: the pair that was read, and the entry's
@@ -306,5 +305,5 @@ pT2v-reg3-by-told κs a e x y p t = answer-told _ x y p (t ∙ ap toldFloat p)
 pub found-pT-by-told : ByTold calls.found_pT.Kinds.ps calls.found_pT.Kinds.r calls.found_pT.Reads.Post (λ κs x. toldState (paperState x))
 found-pT-by-told κs a e x y p t = state-told _ x y p (t ∙ ap toldState p)
 
-pub pair-by-by-told : ByTold writer.pair_by.Kinds.ps writer.pair_by.Kinds.r writer.pair_by.Reads.Post (λ κs x. toldPair (paperPair x))
-pair-by-by-told κs a e x y p t = pair-told _ x y p (t ∙ ap toldPair p)
+pub pair-by-by-told : ByTold writer.pair_by.Kinds.ps writer.pair_by.Kinds.r writer.pair_by.Reads.Post (λ κs x. toldKind (paperPair x))
+pair-by-by-told κs a e x y p t = pair-told _ x y p (t ∙ ap toldKind p)

@@ -1,14 +1,12 @@
 -- To believe: the paper's number and values of each answer that is an enum, case by case. Its reader (`paper` with the answer's name) takes it to an
--- outcome; `told` with the name of what is asked gives the number and the values of that: 0 and the values that were found, or the refusal's number with
+-- outcome; `told` with the name of what was found gives the number and the values of that: 0 and the values that were found, or the refusal's number with
 -- +0.0 for each number, 0 for a count or bits, and nothing for a letter, an origin, a side or a pair. Assumes nothing: these are definitions.
 use Prim.Native.Nat.{ℕ}
 use mathlib.Core.Option.{Option, none, some}
 use lib.Ieee.{Float}
 use Rattle.common.specs.Outcome.{Outcome, value, then, numberIn, numberAndValue, zeroF}
-use Rattle.subregion.specs.declared.Letter.{Letter}
 use Rattle.record.specs.declared.Origin.{Origin}
 use Rattle.volume.specs.State.{State}
-use Rattle.backward.specs.declared.Side.{Side}
 use Rattle.backward.specs.Backward.{Tvd}
 use Rattle.joint.specs.declared.Pair as sums
 use Rattle.joint.specs.declared.Four.{Four}
@@ -21,10 +19,6 @@ use Rattle.exchange_record.specs.declared.Asked.{Asked}
 abbrev pub toldBy : {A B : Type 0} → (A → B) → B → Outcome A → ℕ × B
 toldBy f absent o = numberAndValue absent (then o (λ x. value (f x)))
 
--- one of a closed kind, or nothing
-abbrev pub toldKind : {A : Type 0} → Outcome A → ℕ × Option A
-toldKind = toldBy some none
-
 -- `Answer`
 abbrev pub toldFloat : Outcome Float → ℕ × Float
 toldFloat = numberAndValue zeroF
@@ -33,18 +27,9 @@ toldFloat = numberAndValue zeroF
 abbrev pub toldVerdict : Outcome Unit → ℕ × Unit {0}
 toldVerdict = numberAndValue tt
 
--- `LetterAnswer`, `OriginAnswer`, `SideAnswer`, and `PairAnswer` of exchange_writer
-abbrev pub toldLetter : Outcome Letter → ℕ × Option Letter
-toldLetter = toldKind
-
-abbrev pub toldOrigin : Outcome Origin → ℕ × Option Origin
-toldOrigin = toldKind
-
-abbrev pub toldSide : Outcome Side → ℕ × Option Side
-toldSide = toldKind
-
-abbrev pub toldPair : Outcome Pair → ℕ × Option Pair
-toldPair = toldKind
+-- `LetterAnswer`, `OriginAnswer`, `SideAnswer`, and `PairAnswer` of exchange_writer: one of a closed kind, or nothing
+abbrev pub toldKind : {A : Type 0} → Outcome A → ℕ × Option A
+toldKind = toldBy some none
 
 -- `StateAnswer`: the origin, v and d
 abbrev pub toldState : Outcome State → ℕ × (Option Origin × Float × Float)
