@@ -1,0 +1,8 @@
+-- `backward_equations::raw_on`: by the side.
+use borrow.Author.Needs.{needs}
+use Rattle.backward_equations.proofs.by_side.raw_on as own
+
+pub raw-on-spec : {M : Type 1} → own.Statement.statement M
+raw-on-spec =
+    own.Tie.close (own.Tie.spec (λ c. search needs) (λ c κs. search needs) (λ c. search needs) (λ c κs. search needs)
+    (λ c. rw (c .before .enum-told .given .1) (c .raw-worked .ensures)) (λ c. rw (c .before .enum-told2 .given .1) (c .raw-worked2 .ensures)))

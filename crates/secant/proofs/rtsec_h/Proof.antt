@@ -1,0 +1,6 @@
+-- `secant::rtsec_h` meets its contract: the search on its curve. Assumes nothing.
+use borrow.Author.Needs.{needs}
+use Rattle.secant.proofs.rtsec_h as own
+
+pub rtsec-h-spec : {M : Type 1} → own.Statement.statement M
+rtsec-h-spec = own.Tie.close (own.Tie.spec (λ c κs. search needs) (λ c. c .rtsec .ensures))
