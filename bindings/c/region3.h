@@ -35,17 +35,10 @@
 #define R3_VERSION "0.3.0"
 #define R3_VERSION_NUMBER 300 /* 10000 * first + 100 * second + third */
 
-#ifndef __SIZE_TYPE__
-#include <stddef.h>
-#endif
-
-#ifdef __cplusplus
-extern "C" {
-#endif
-
 #ifdef __SIZE_TYPE__
 typedef __SIZE_TYPE__ r3_size;
 #else
+#include <stddef.h>
 typedef size_t r3_size;
 #endif
 typedef unsigned char r3_byte;
@@ -57,6 +50,10 @@ typedef unsigned char r3_byte;
 #define R3_INLINE static __inline__
 #else
 #define R3_INLINE static
+#endif
+
+#ifdef __cplusplus
+extern "C" {
 #endif
 
 /* Why a call is refused, in the order in which it is found: 7, 6, 1, 2, 3, 8, then 4 or 5 at the first step that meets either; of a search its 5, 4 of

@@ -19,8 +19,8 @@ fn of(name: &str) -> String {
     env::var(name).unwrap_or_default()
 }
 
-// The folders in which the archive is looked for. A relative REGION3_LIB is meant from where cargo was started, which a build script knows by PWD
-// alone; a caller that sets no PWD means the crate's own folder, in which build scripts run.
+// The folders in which the archive is looked for, in order. A relative REGION3_LIB is meant from where cargo was started, which a build script knows by
+// PWD alone; where it is not there, or there is no PWD, from the crate's own folder, in which build scripts run.
 fn folders(place: &str) -> Vec<PathBuf> {
     let crate_folder = PathBuf::from(of("CARGO_MANIFEST_DIR"));
     match env::var_os("REGION3_LIB").map(PathBuf::from) {
