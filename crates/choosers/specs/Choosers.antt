@@ -30,7 +30,7 @@ bandTo40 limit p =
     (cond (lt (whole 23) p) clhijk
     (bandTo23 limit p)))
 
--- docs/SCOPE.md has no p above 100; the Rust gives it the second band
+-- Document 01 has no p above 100; the Rust gives it the second band
 abbrev pub bandOf : Float → Float → Band
 bandOf limit p = cond (lt (whole 40) p) (cond (le p (whole 100)) ab cdef) (bandTo40 limit p)
 
