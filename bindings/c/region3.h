@@ -89,8 +89,8 @@ enum {
     R3_FIELDS = 10
 };
 
-/* The 25 properties at a T and a d: number as in seuif97's common/property_id.rs, name, unit. Those marked "Rust" are formulas of the Rust that
- * IAPWS does not print; those marked WARNING are not what their names say. */
+/* The 25 properties at a T and a d: number as in seuif97's common/property_id.rs, name, unit. Those marked "Rust" are formulas of the Rust, not
+ * all of which IAPWS defines; those marked WARNING are not what their names say. */
 enum {
     R3_OP = 0,      /* pressure, MPa; R3_STATE outside 16.529 to 100 */
     R3_OV = 3,      /* specific volume, m3/kg */
