@@ -70,7 +70,7 @@ pub enum Property {
     /// **Warning:** off by the factor of `OFI`: at (750 K, 500 kg/m3) 3.32441 MPa in place of 36.8146.
     OFU = 34,
     /// Relative pressure coefficient, 1/K: the expansion coefficient / p / the isothermal compressibility. The quantity of `OPC` by another formula,
-    /// up to 9.1e-16 of it apart.
+    /// up to 1.1e-15 of it apart.
     OALFAP = 35,
 }
 

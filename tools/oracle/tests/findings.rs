@@ -350,6 +350,10 @@ fn one_quantity_twice() {
         count += 1;
     }
     println!("OPC and OALFAP: {largest:e} apart at most, {count} states");
+    let (T, d) = (833.8411375815019, 143.4983399588724);
+    let (a, b) = (property(T, d, OPC), property(T, d, OALFAP));
+    println!("({T:?}, {d:?}): {a:?} and {b:?}, {:e} apart", ((a - b) / a).abs());
+    assert!(near(a, b, 1.1e-15) && !near(a, b, 1e-15));
     assert!(largest < 1e-9 && count > 10_000);
 }
 
