@@ -104,8 +104,8 @@ enum {
     R3_FIELDS = 10
 };
 
-/* The 25 properties at a T and a d: number as in seuif97's common/property_id.rs, name, unit. Those marked "Rust" are formulas of the Rust that
- * IAPWS does not print; those marked WARNING are not what their names say. */
+/* The 25 properties at a T and a d: number as in seuif97's common/property_id.rs, name, unit. Those marked "Rust" are formulas of the Rust, not
+ * all of which IAPWS defines; those marked WARNING are not what their names say. */
 enum {
     R3_OP = 0,      /* pressure, MPa; R3_STATE outside 16.529 to 100 */
     R3_OV = 3,      /* specific volume, m3/kg */
@@ -134,7 +134,7 @@ enum {
     R3_OFI = 33,    /* fugacity coefficient, 1; Rust. WARNING: exp(g/(R T)) with no ideal-gas reference: over region 3 a factor of 1.2 to 33 below the
                        coefficient with the ideal gas of R7-97 equation 16 as reference */
     R3_OFU = 34,    /* fugacity, MPa; Rust. WARNING: p times R3_OFI, so off by the same factor */
-    R3_OALFAP = 35  /* relative pressure coefficient, 1/K; Rust. The quantity of R3_OPC by another formula, up to 9.1e-16 of it apart */
+    R3_OALFAP = 35  /* relative pressure coefficient, 1/K; Rust. The quantity of R3_OPC by another formula, up to 1.1e-15 of it apart */
 };
 
 /* The record of a state. In r3_hs the record's p is the backward equation's; in the others, r3_pt too, it is worked from

@@ -1,4 +1,4 @@
--- The letter of 23 < p ≤ 25 by exact arithmetic, and the premises of demand 3: p is P / 2^48 MPa and T is t / 2^43 K, P and t whole.
+-- To believe: the letter of 23 < p ≤ 25 by exact arithmetic, and the premises of demand 3: p is P / 2^48 MPa and T is t / 2^43 K, P and t whole.
 -- Assumes nothing: these are definitions.
 use mathlib.Core.Bool.{cond}
 use Prim.Native.Nat.{ℕ, _^_}
