@@ -47,7 +47,11 @@ fn run(words: &[String]) -> Result<bool, String> {
             match words[1..].iter().map(String::as_str).collect::<Vec<_>>()[..] {
                 [] => (),
                 ["--power-before-ask-6"] => rules::power_before_ask_6(),
-                _ => return Err(format!("answers takes --power-before-ask-6 or nothing\n{HELP}")),
+                _ => {
+                    return Err(format!(
+                        "answers takes --power-before-ask-6 or nothing\n{HELP}"
+                    ))
+                }
             }
             stream(entries::answer).map_err(said)?
         }

@@ -42,7 +42,13 @@ pub fn power(a: f64, n: i32) -> Result<f64, u8> {
         return Err(SECOND);
     }
     let looks = a != 0.0 && !BEFORE_ASK_6.load(Relaxed);
-    let whole = |r: f64| if looks && r.abs() < f64::MIN_POSITIVE { Err(STEP) } else { step(r) };
+    let whole = |r: f64| {
+        if looks && r.abs() < f64::MIN_POSITIVE {
+            Err(STEP)
+        } else {
+            step(r)
+        }
+    };
     let (mut r, mut a, mut bits) = (1.0, a, n.unsigned_abs());
     while bits > 0 {
         if bits & 1 == 1 {

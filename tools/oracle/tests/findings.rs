@@ -332,7 +332,10 @@ fn beyond_region_3() {
     let (p, h) = (17.13, 2882.13);
     let record = ph_record(p, h).unwrap();
     println!("(p,h) ({p:?}, {h:?}): p {} and h {}", record[3], record[4]);
-    assert_eq!((format!("{:.2}", record[3]), format!("{:.1}", record[4])), ("41.63".into(), "3305.8".into()));
+    assert_eq!(
+        (format!("{:.2}", record[3]), format!("{:.1}", record[4])),
+        ("41.63".into(), "3305.8".into())
+    );
     let (h, s) = (1562.09, 5.0092);
     let record = hs_record(h, s).unwrap();
     println!("(h,s) ({h:?}, {s:?}): h {} and s {}", record[4], record[5]);
@@ -352,7 +355,10 @@ fn one_quantity_twice() {
     println!("OPC and OALFAP: {largest:e} apart at most, {count} states");
     let (T, d) = (833.8411375815019, 143.4983399588724);
     let (a, b) = (property(T, d, OPC), property(T, d, OALFAP));
-    println!("({T:?}, {d:?}): {a:?} and {b:?}, {:e} apart", ((a - b) / a).abs());
+    println!(
+        "({T:?}, {d:?}): {a:?} and {b:?}, {:e} apart",
+        ((a - b) / a).abs()
+    );
     assert!(near(a, b, 1.1e-15) && !near(a, b, 1e-15));
     assert!(largest < 1e-9 && count > 10_000);
 }
@@ -389,7 +395,10 @@ fn where_5_comes_from() {
     for entry in [10, 21, 30] {
         for row in rows(entry, 100_000).filter(|row| answer(row).refusal == 5) {
             let near = row.first - 23.0;
-            assert!(near != 0.0 && near.abs() < 2.4e-10, "entry {entry}: {row:?}");
+            assert!(
+                near != 0.0 && near.abs() < 2.4e-10,
+                "entry {entry}: {row:?}"
+            );
         }
     }
     for entry in [7, 8, 11, 12, 13, 14, 15, 20, 22, 23, 25, 34] {
