@@ -2,5 +2,8 @@
 use borrow.Author.Needs.{needs}
 use Rattle.boundaries.proofs.temperatures.raw_boundary as own
 
+returns : own.Tie.Need-returns
+returns c = c .number .ensures
+
 pub raw-boundary-spec : {M : Type 1} → own.Statement.statement M
-raw-boundary-spec = own.Tie.close (own.Tie.spec (λ c κs. search needs) (λ c. c .number .ensures))
+raw-boundary-spec = own.Tie.close (own.Tie.spec (λ c κs. search needs) returns)
