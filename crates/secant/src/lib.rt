@@ -29,12 +29,12 @@ pub enum Curve {
 }
 
 // The last two places, the older one first, each with what is missing there of the asked value; and the last step.
-struct Secant {
-    xl: f64,
-    fl: f64,
-    x: f64,
-    f: f64,
-    dx: f64,
+pub struct Secant {
+    pub xl: f64,
+    pub fl: f64,
+    pub x: f64,
+    pub f: f64,
+    pub dx: f64,
 }
 
 enum SecantAnswer {
