@@ -26,9 +26,10 @@ fn found(o: Origin, v: M3PerKg) -> StateAnswer
     }
 }
 
-// The volume in m3/kg, raw. It stands apart, so that what asks for it is short enough to go where it is called.
-fn raw_from(o: Origin, p: MPa, t: Kelvin) -> f64
-    ensures { λ r. ⌜ check r ≡ volumeFrom o (p .0) (t .0) ⌝ }
+// The volume in m3/kg, raw. It stands apart, so that what asks for it is short enough to go where it is called; p and t are bare in here, where
+// a struct of one number would cost the column run an instruction or two a row.
+fn raw_from(o: Origin, p: f64, t: f64) -> f64
+    ensures { λ r. ⌜ check r ≡ volumeFrom o p t ⌝ }
 {
     match o {
         Origin::Subregion(l) => volume_by(equation(l), l, p, t),
@@ -40,12 +41,12 @@ fn raw_from(o: Origin, p: MPa, t: Kelvin) -> f64
 pub fn found_by(o: Origin, p: MPa, t: Kelvin) -> StateAnswer
     ensures { λ r. ⌜ paperState r ≡ stateBy o (p .0) (t .0) ⌝ }
 {
-    found(o, M3PerKg(raw_from(o, p, t)))
+    found(o, M3PerKg(raw_from(o, p.0, t.0)))
 }
 
 // The volume alone, whose density is not looked at.
 pub fn volume_from(o: Origin, p: MPa, t: Kelvin) -> Answer
     ensures { λ r. ⌜ paper r ≡ volumeFrom o (p .0) (t .0) ⌝ }
 {
-    settle(raw_from(o, p, t))
+    settle(raw_from(o, p.0, t.0))
 }

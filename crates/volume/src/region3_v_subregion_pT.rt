@@ -1,8 +1,6 @@
 // The volume equation of each letter: S05rev, table 4 and equations 4 and 5.
 // The steps are raw: a number that is lost travels as itself to the end.
 use crate::Equation;
-use common::Kelvin;
-use common::MPa;
 use inverses::raw_root;
 use rules::raw_exponential;
 use rules::raw_power;
@@ -48,23 +46,23 @@ pub fn equation(l: Letter) -> Equation
 }
 
 // The volume by an equation, with the sum of the letter's table.
-pub fn volume_by(e: Equation, l: Letter, p: MPa, t: Kelvin) -> f64
-    ensures { λ r. ⌜ check r ≡ volumeBy e (summed l) (p .0) (t .0) ⌝ }
+pub fn volume_by(e: Equation, l: Letter, p: f64, t: f64) -> f64
+    ensures { λ r. ⌜ check r ≡ volumeBy e (summed l) p t ⌝ }
 {
     match e {
-        Equation::Plain(v, ps, ts, a, b) => letter_sum(l, p.0 / ps - a, t.0 / ts - b) * v,
-        Equation::RootP(v, ps, ts, a, b) => letter_sum(l, raw_root(p.0 / ps - a), t.0 / ts - b) * v,
+        Equation::Plain(v, ps, ts, a, b) => letter_sum(l, p / ps - a, t / ts - b) * v,
+        Equation::RootP(v, ps, ts, a, b) => letter_sum(l, raw_root(p / ps - a), t / ts - b) * v,
         Equation::FourthRootT(v, ps, ts, a, b) => {
-            letter_sum(l, p.0 / ps - a, raw_root(raw_root(t.0 / ts - b))) * v
+            letter_sum(l, p / ps - a, raw_root(raw_root(t / ts - b))) * v
         }
         Equation::Fourth(v, ps, ts, a, b) => {
-            raw_power(letter_sum(l, p.0 / ps - a, t.0 / ts - b), 4) * v
+            raw_power(letter_sum(l, p / ps - a, t / ts - b), 4) * v
         }
         Equation::RootPFourth(v, ps, ts, a, b) => {
-            raw_power(letter_sum(l, raw_root(p.0 / ps - a), t.0 / ts - b), 4) * v
+            raw_power(letter_sum(l, raw_root(p / ps - a), t / ts - b), 4) * v
         }
         Equation::Exponential(v, ps, ts, a, b) => {
-            raw_exponential(letter_sum(l, p.0 / ps - a, t.0 / ts - b)) * v
+            raw_exponential(letter_sum(l, p / ps - a, t / ts - b)) * v
         }
     }
 }
