@@ -51,7 +51,7 @@ pub fn row_at(k: usize) -> Row
     ensures { λ r. ⌜ rowOf r ≡ rowAt k ⌝ }
 {
     match k {
-        // 3ab: equation 2, table 1; 693.0341408 K at 40 MPa
+        // 3ab: equation 2; 693.0341408 K at 40 MPa
         AB => Row {
             ln: true,
             t1: Term(0, 0.154793642129415e4),
@@ -60,7 +60,7 @@ pub fn row_at(k: usize) -> Row
             t4: Term(-1, -0.191887498864292e4),
             t5: Fifth::Present(Term(-2, 0.918419702359447e3)),
         },
-        // 3cd: equation 1, table 1; 649.3659208 K at 25 MPa
+        // 3cd: equation 1; 649.3659208 K at 25 MPa
         CD => Row {
             ln: false,
             t1: Term(0, 0.585276966696349e3),
@@ -69,7 +69,7 @@ pub fn row_at(k: usize) -> Row
             t4: Term(3, 0.159090746562729e-3),
             t5: Fifth::Absent,
         },
-        // 3gh: equation 1, table 1; 649.8873759 K at 23 MPa
+        // 3gh: equation 1; 649.8873759 K at 23 MPa
         GH => Row {
             ln: false,
             t1: Term(0, -0.249284240900418e5),
@@ -78,7 +78,7 @@ pub fn row_at(k: usize) -> Row
             t4: Term(3, 0.751608051114157e1),
             t5: Fifth::Present(Term(4, -0.787105249910383e-1)),
         },
-        // 3ij: equation 1, table 1; 651.5778091 K at 23 MPa
+        // 3ij: equation 1; 651.5778091 K at 23 MPa
         IJ => Row {
             ln: false,
             t1: Term(0, 0.584814781649163e3),
@@ -87,7 +87,7 @@ pub fn row_at(k: usize) -> Row
             t4: Term(3, -0.587071076864459e-2),
             t5: Fifth::Present(Term(4, 0.515308185433082e-4)),
         },
-        // 3jk: equation 1, table 1; 655.8338344 K at 23 MPa
+        // 3jk: equation 1; 655.8338344 K at 23 MPa
         JK => Row {
             ln: false,
             t1: Term(0, 0.617229772068439e3),
@@ -96,7 +96,7 @@ pub fn row_at(k: usize) -> Row
             t4: Term(3, -0.157391839848015e-1),
             t5: Fifth::Present(Term(4, 0.137897492684194e-3)),
         },
-        // 3mn: equation 1, table 1; 649.6054133 K at 22.8 MPa
+        // 3mn: equation 1; 649.6054133 K at 22.8 MPa
         MN => Row {
             ln: false,
             t1: Term(0, 0.535339483742384e3),
@@ -105,7 +105,7 @@ pub fn row_at(k: usize) -> Row
             t4: Term(3, 0.192871054508108e-2),
             t5: Fifth::Absent,
         },
-        // 3op: equation 2, table 1; 650.0106943 K at 22.8 MPa
+        // 3op: equation 2; 650.0106943 K at 22.8 MPa
         OP => Row {
             ln: true,
             t1: Term(0, 0.969461372400213e3),
@@ -114,7 +114,7 @@ pub fn row_at(k: usize) -> Row
             t4: Term(-1, 0.773845935768222e3),
             t5: Fifth::Present(Term(-2, -0.152313732937084e4)),
         },
-        // 3qu: equation 1, table 1; 645.6355027 K at 22 MPa
+        // 3qu: equation 1; 645.6355027 K at 22 MPa
         QU => Row {
             ln: false,
             t1: Term(0, 0.565603648239126e3),
@@ -123,7 +123,7 @@ pub fn row_at(k: usize) -> Row
             t4: Term(3, 0.122240301070145e-2),
             t5: Fifth::Absent,
         },
-        // 3rx: equation 1, table 1; 648.2622754 K at 22 MPa
+        // 3rx: equation 1; 648.2622754 K at 22 MPa
         RX => Row {
             ln: false,
             t1: Term(0, 0.584561202520006e3),
@@ -132,7 +132,7 @@ pub fn row_at(k: usize) -> Row
             t4: Term(3, -0.294905044740799e-2),
             t5: Fifth::Absent,
         },
-        // 3uv: equation 1, table 9; 647.7996121 K at 22.3 MPa
+        // 3uv: equation 1; 647.7996121 K at 22.3 MPa
         UV => Row {
             ln: false,
             t1: Term(0, 0.528199646263062e3),
@@ -141,7 +141,7 @@ pub fn row_at(k: usize) -> Row
             t4: Term(3, 0.286791682263697e-2),
             t5: Fifth::Absent,
         },
-        // 3wx: equation 2, table 9; 648.2049480 K at 22.3 MPa
+        // 3wx: equation 2; 648.2049480 K at 22.3 MPa
         _ => Row {
             ln: true,
             t1: Term(0, 0.728052609145380e1),

@@ -26,7 +26,7 @@ five = cd ∷ gh ∷ ef ∷ ij ∷ jk ∷ []
 abbrev pub kelvin : ℕ → Fraction
 kelvin t = ratio t (2 ^ 43)
 
--- S05rev, table 1: c up to 3cd, then up to 3gh the letter `second`, h up to 3ef, i up to 3ij, j up to 3jk, and k
+-- S05rev: c up to 3cd, then up to 3gh the letter `second`, h up to 3ef, i up to 3ij, j up to 3jk, and k
 unfoldable pub lettersWith : Letter → ℕ → ℕ → Letter
 lettersWith second P t =
     cond (atMost (kelvin t) (temperature cd P)) C
