@@ -35,19 +35,12 @@ use Rattle.polynomial.specs.declared.PairAnswer.the-variants as pair-sums
 use Rattle.polynomial.specs.declared.FourAnswer.{FourAnswer}
 use Rattle.polynomial.specs.declared.FourAnswer.the-variants as four-sums
 use Rattle.polynomial.specs.Columns as columns
-use Rattle.secant.specs.declared.Secant.{Secant}
-use Rattle.secant.specs.declared.SecantAnswer.{SecantAnswer}
-use Rattle.secant.specs.declared.SecantAnswer.the-variants as secants
-use Rattle.secant.specs.declared.Turn.{Turn}
-use Rattle.secant.specs.declared.Turn.the-variants as turns
 use Rattle.secant.specs.declared.ProposalAnswer.{ProposalAnswer}
 use Rattle.secant.specs.declared.ProposalAnswer.the-variants as proposals
-use Rattle.secant.specs.Secant.{Next, paperSecant, paperTurn, paperProposal}
-use Rattle.place.specs.declared.StartsAnswer.{StartsAnswer}
-use Rattle.place.specs.declared.StartsAnswer.the-variants as starts
+use Rattle.secant.specs.Secant.{paperProposal}
 use Rattle.place.specs.declared.FoundAnswer.{FoundAnswer}
 use Rattle.place.specs.declared.FoundAnswer.the-variants as founds
-use Rattle.place.specs.AcceptedPlace.{paperStarts, paperFound}
+use Rattle.place.specs.AcceptedPlace.{paperFound}
 use Rattle.exchange_record.specs.declared.ReadRefusal.{ReadRefusal}
 use Rattle.exchange_record.specs.declared.ReadRefusal.the-variants as read-refusals
 use Rattle.exchange_record.specs.declared.ReadAnswer.{ReadAnswer}
@@ -69,18 +62,13 @@ use Rattle.volume_at.proofs as calls
 use Rattle.exchange_writer.proofs as writer
 use Rattle.points.specs.Told.{
   toldBy,
-  toldKind,
   toldFloat,
   toldVerdict,
-  toldKind,
-  toldKind,
-  toldKind,
   toldKind,
   toldState,
   toldTvd,
   toldTwoSums,
   toldFourSums,
-  toldStarts,
   toldProposal,
   toldAsked,
   toldExchange,
@@ -213,13 +201,6 @@ four-sums-numbered (four-sums.Refused k) = not-0 k
 pub four-sums-told : SamePromise columns.paperFour toldFourSums
 four-sums-told = by-value columns.paperFour four-sums-numbered _
 
-starts-numbered : (r : StartsAnswer) → Numbered (paperStarts r)
-starts-numbered (starts.Value a b) = tt
-starts-numbered (starts.Refused k) = not-0 k
-
-pub starts-told : SamePromise paperStarts toldStarts
-starts-told = by-value paperStarts starts-numbered _
-
 proposal-numbered : (r : ProposalAnswer) → Numbered (paperProposal r)
 proposal-numbered (proposals.Value x n) = tt
 proposal-numbered (proposals.Refused k) = not-0 k
@@ -233,22 +214,6 @@ found-numbered (founds.Refused k) = not-0 k
 
 pub found-told : SamePromise paperFound toldProposal
 found-told = by-value paperFound found-numbered _
-
--- a step of the search, which no caller is told of: whatever stands for none
-secant-numbered : (r : SecantAnswer) → Numbered (paperSecant r)
-secant-numbered (secants.Value s) = tt
-secant-numbered secants.Lost = λ e. omega arith
-
-pub secant-told : (absent : Secant) → SamePromise paperSecant (numberAndValue absent)
-secant-told = by-value paperSecant secant-numbered
-
-turn-numbered : (r : Turn) → Numbered (paperTurn r)
-turn-numbered turns.Ended = tt
-turn-numbered (turns.Tried s) = tt
-turn-numbered turns.Lost = λ e. omega arith
-
-pub turn-told : (absent : Next) → SamePromise paperTurn (numberAndValue absent)
-turn-told = by-value paperTurn turn-numbered
 
 read-numbered : (r : ReadAnswer) → Numbered (paperRead r)
 read-numbered (reads.Value q) = tt

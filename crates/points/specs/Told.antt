@@ -11,7 +11,6 @@ use Rattle.backward.specs.Backward.{Tvd}
 use Rattle.joint.specs.declared.Pair as sums
 use Rattle.joint.specs.declared.Four.{Four}
 use Rattle.secant.specs.Secant.{Proposal}
-use Rattle.place.specs.AcceptedPlace.{Starts}
 use Rattle.exchange_record.specs.declared.Pair.{Pair}
 use Rattle.exchange_record.specs.declared.Asked.{Asked}
 
@@ -45,10 +44,6 @@ toldTwoSums = numberAndValue (record { first = zeroF; second = zeroF })
 
 abbrev pub toldFourSums : Outcome Four → ℕ × Four
 toldFourSums = numberAndValue (record { i = zeroF; ii = zeroF; ij = zeroF; jj = zeroF })
-
--- `StartsAnswer`
-abbrev pub toldStarts : Outcome Starts → ℕ × Starts
-toldStarts = numberAndValue (record { first = zeroF; second = zeroF })
 
 -- `ProposalAnswer`, `FoundAnswer`: the place, and how many trials
 abbrev pub toldProposal : Outcome Proposal → ℕ × Proposal
