@@ -1,11 +1,11 @@
--- Points of the search's parts at made numbers, worked out by antt: where a turn ends and where a step is lost, for any curve and any asked y; the order of the
+-- Points of the search's parts at made numbers, worked out by antt: where a turn ends and where a step is lost, for any curve; the order of the
 -- start points; where a place is lifted. Assumes nothing.
 use mathlib.Core.Path.{_≡_, refl}
 use mathlib.Core.List.{[], _∷_, map}
 use mathlib.Core.Bool.{false}
 use Prim.Native.Nat.{_^_}
 use lib.IntN.{negsuc}
-use lib.Ieee.{Float, fin, round, neg, add, sub, sum, mul, div, le, lt, eq}
+use lib.Ieee.{fin, round, neg, add, sub, sum, mul, div, le, lt, eq}
 use Rattle.common.specs.Decimal.{decimal, whole, scaled}
 use Rattle.common.specs.Outcome.{value, refused, zeroF}
 use Rattle.secant.specs.Secant.{placed, openedBy, newerLast, liftedTo, ended, turnOf}
@@ -13,13 +13,13 @@ use Rattle.secant.specs.declared.Curve.{Curve}
 
 -- in turn: as much is missing at both places, after a long step; nothing is missing; the last step was 1e-8; f - fl is lost
 pub turns :
-    (curve : Curve) (y : Float)
-    → (turnOf curve y (placed (whole 300) (whole 2) (whole 400) (whole 2) (whole 100)) ≡ value ended)
-    × (turnOf curve y (placed (whole 300) (whole 2) (whole 400) (neg zeroF) (whole 100)) ≡ value ended)
-    × (turnOf curve y (placed (whole 300) (whole 2) (whole 400) (whole 1) (neg (decimal 0_00000001 8))) ≡ value ended)
-    × (turnOf curve y (placed (whole 300) (neg (whole (10 ^ 308))) (whole 400) (whole (10 ^ 308)) (whole 100)) ≡ refused 5)
+    (curve : Curve)
+    → (turnOf curve (placed (whole 300) (whole 2) (whole 400) (whole 2) (whole 100)) ≡ value ended)
+    × (turnOf curve (placed (whole 300) (whole 2) (whole 400) (neg zeroF) (whole 100)) ≡ value ended)
+    × (turnOf curve (placed (whole 300) (whole 2) (whole 400) (whole 1) (neg (decimal 0_00000001 8))) ≡ value ended)
+    × (turnOf curve (placed (whole 300) (neg (whole (10 ^ 308))) (whole 400) (whole (10 ^ 308)) (whole 100)) ≡ refused 5)
 unfolding turnOf decimal whole scaled round neg add sub sum le lt eq
-turns curve y = (refl, refl, refl, refl)
+turns curve = (refl, refl, refl, refl)
 
 -- the second start point is the newer one where as much is missing at both, and the first where less is missing there
 pub start-points :
