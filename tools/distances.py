@@ -36,9 +36,11 @@ def tables():
     text = (SPECS / "Exact.antt").read_text(encoding="utf-8")
     found = {}
     for name, body in re.findall(r"^exact3(\w\w) =\n((?:    .*\n)+)", text, re.M):
-        rows = re.findall(r"(more|less) (\d) ([\d_]+) \((pos|minus) (\d)\)", body)
+        rows = re.findall(r"(plus|minus) (\d) ([\d_]+) \((pos|negative) (\d)\)", body)
+        if len(rows) != body.count("∷ ") or len(rows) < 4:
+            sys.exit(f"distances.py: the rows of exact3{name} are not found in the form that is looked for")
         found[name] = [
-            (int(i), -1 if kind == "less" else 1, int(n.replace("_", "")), int(e) * (1 if s == "pos" else -1))
+            (int(i), -1 if kind == "minus" else 1, int(n.replace("_", "")), int(e) * (1 if s == "pos" else -1))
             for kind, i, n, s, e in rows
         ]
     return found

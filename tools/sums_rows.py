@@ -224,6 +224,12 @@ def number_tables():
     ]
 
 
+# Tables whose sums are finite where vi*vi, vi*vj and vj*vj are subnormal: there a quotient by a product is another number than two quotients. Where a product
+# is 0 it is refused.
+SMALL_TABLES = (by_rows([(1, 1, 1e200)]), by_rows([(-1, -1, 1e-320)]))
+SMALL_POINTS = ((1e-155, 1e-155), (-3e-155, 2e-155), (1e-160, 1e-160), (1e-160, -3e-155), (1e-200, 1e-200))
+
+
 # ---- the rows
 
 LEAST, SMALL, BIG, MAX = number(1), number(0x10000000000000), 1.3e154, number(0x7FEFFFFFFFFFFFFF)
@@ -284,6 +290,8 @@ def listed():
         add(table, few_points(draw))
     for table in [by_rows([])] + number_tables():
         add(table, edge_points(draw))
+    for table in SMALL_TABLES:
+        add(table, SMALL_POINTS)
     return tables, asked
 
 

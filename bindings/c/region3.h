@@ -12,8 +12,9 @@
  *  - A pointer is to live memory of the size that its type or its length says, aligned, and no memory that a call writes overlaps other memory
  *    of that call.
  *  - The processor rounds to nearest, ties to even, as every C program starts. In another rounding mode (fesetround, or a library that sets one)
- *    21 of the 23 calls answered other bits at some of a thousand points. r3_rounds_to_nearest() tells which it is. Flush-to-zero changed none
- *    of the first 14 calls, tried at a point each; where a step is subnormal it can: 1e-160 squared by r3_power is then 0.
+ *    all calls that work with numbers but r3_letter, r3_root and r3_write, 22 of 25, answered other bits at some of a thousand points; of those
+ *    three none was seen to. r3_rounds_to_nearest() tells which it is. Flush-to-zero changed none of the first 14 calls, tried at a point each;
+ *    where a step is subnormal it can: 1e-160 squared by r3_power is then 0.
  *
  * What a number is worth (docs/DIFFERENCES.md has each with its input):
  *  - Letter l lacks the last term of its published equation, as the Rust has it: v is up to 4.1 percent low, and on an even grid over l 12
@@ -26,7 +27,7 @@
  *
  * The archive calls no mathematical function of the C library: the two symbols that it leaves to the linker are memcpy and memset.
  *
- * This header includes no other.
+ * This header includes no other, but for stddef.h where the compiler does not name the type of a size by itself (GCC and Clang do).
  */
 #ifndef REGION3_H
 #define REGION3_H
@@ -34,12 +35,26 @@
 #define R3_VERSION "0.3.0"
 #define R3_VERSION_NUMBER 300 /* 10000 * first + 100 * second + third */
 
+#ifdef __SIZE_TYPE__
+typedef __SIZE_TYPE__ r3_size;
+#else
+#include <stddef.h>
+typedef size_t r3_size;
+#endif
+typedef unsigned char r3_byte;
+
+/* A function of this header: inline where the language has the word. */
+#if defined(__cplusplus) || (defined(__STDC_VERSION__) && __STDC_VERSION__ >= 199901L)
+#define R3_INLINE static inline
+#elif defined(__GNUC__)
+#define R3_INLINE static __inline__
+#else
+#define R3_INLINE static
+#endif
+
 #ifdef __cplusplus
 extern "C" {
 #endif
-
-typedef __SIZE_TYPE__ r3_size;
-typedef unsigned char r3_byte;
 
 /* Why a call is refused, in the order in which it is found: 7, 6, 1, 2, 3, 8, then 4 or 5 at the first step that meets either; of a search its 5, 4 of
  * what it proposes, 5 or 4 of the test, 15, then the record's 4 or 5. Later versions add numbers: anything but 0 is a refusal. */
@@ -89,8 +104,8 @@ enum {
     R3_FIELDS = 10
 };
 
-/* The 25 properties at a T and a d: number as in seuif97's common/property_id.rs, name, unit. Those marked "Rust" are formulas of the Rust that
- * IAPWS does not print; those marked WARNING are not what their names say. */
+/* The 25 properties at a T and a d: number as in seuif97's common/property_id.rs, name, unit. Those marked "Rust" are formulas of the Rust, not
+ * all of which IAPWS defines; those marked WARNING are not what their names say. */
 enum {
     R3_OP = 0,      /* pressure, MPa; R3_STATE outside 16.529 to 100 */
     R3_OV = 3,      /* specific volume, m3/kg */
@@ -119,7 +134,7 @@ enum {
     R3_OFI = 33,    /* fugacity coefficient, 1; Rust. WARNING: exp(g/(R T)) with no ideal-gas reference: over region 3 a factor of 1.2 to 33 below the
                        coefficient with the ideal gas of R7-97 equation 16 as reference */
     R3_OFU = 34,    /* fugacity, MPa; Rust. WARNING: p times R3_OFI, so off by the same factor */
-    R3_OALFAP = 35  /* relative pressure coefficient, 1/K; Rust. The quantity of R3_OPC by another formula, up to 9.1e-16 of it apart */
+    R3_OALFAP = 35  /* relative pressure coefficient, 1/K; Rust. The quantity of R3_OPC by another formula, up to 1.1e-15 of it apart */
 };
 
 /* The record of a state. In r3_hs the record's p is the backward equation's; in the others, r3_pt too, it is worked from
@@ -153,7 +168,8 @@ r3_byte r3_property(int number, double t, double d, double *out);
  * itself: returns cp's refusal and writes w's, so look at both. Where the arguments are at fault both are refused with the same number. */
 r3_byte r3_cp_w(double t, double d, double *cp, double *w, r3_byte *w_refusal);
 
-/* The subregion's letter at a p and a T, in ASCII. */
+/* The subregion's letter at a p and a T, in ASCII. At the critical point, (22.064, 647.096), it is z, the letter that the boundaries give; r3_columns,
+ * whose density there is the critical one and no letter's, has 0 there. */
 r3_byte r3_letter(double p, double t, r3_byte *letter);
 
 /* A letter, a density and a refusal for each row of p and t: each column is a pointer and its length, and the five lengths are equal.
@@ -187,11 +203,16 @@ r3_byte r3_root(double x, double *out);
 r3_byte r3_logarithm(double x, double *out);
 r3_byte r3_exponential(double x, double *out);
 
-/* The version of this header, which is not in the archive. */
-static __inline__ const char *r3_version(void) { return R3_VERSION; }
+/* The version of the archive that is linked, as R3_VERSION_NUMBER is this header's: a program whose header and archive may differ compares the two. The
+ * second answers the same, under a name that has the version in it: a program that names it does not link with the archive of another version. */
+unsigned r3_library_version(void);
+unsigned r3_library_version_0_3_0(void);
+
+/* The version of this header. */
+R3_INLINE const char *r3_version(void) { return R3_VERSION; }
 
 /* What a refusal's number means, in English; never null. */
-static __inline__ const char *r3_refusal_text(int number) {
+R3_INLINE const char *r3_refusal_text(int number) {
     switch (number) {
     case R3_ACCEPTED: return "accepted";
     case R3_NOT_FINITE: return "an argument is NaN or infinite";
@@ -216,7 +237,7 @@ static __inline__ const char *r3_refusal_text(int number) {
 
 /* Whether this thread's arithmetic rounds to nearest, as the library must find it: 1 or 0. By three sums, so that no header and no library is
  * needed; it says what fegetround() == FE_TONEAREST of fenv.h says. */
-static __inline__ int r3_rounds_to_nearest(void) {
+R3_INLINE int r3_rounds_to_nearest(void) {
     /* the unit above 1, half of it and three quarters of it */
     const double unit = 2.220446049250313080847263336181640625e-16;
     volatile double one = 1.0, half = unit / 2.0, more = unit * 0.75;

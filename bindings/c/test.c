@@ -5,6 +5,7 @@
 int printf(const char *, ...);
 int memcmp(const void *, const void *, r3_size);
 void *memset(void *, int, r3_size);
+void *memcpy(void *, const void *, r3_size);
 r3_size strlen(const char *);
 int fesetround(int);
 int fegetround(void);
@@ -237,6 +238,8 @@ static void searches(void) {
         {r3_th, r3_th2d, 716.7091396139051, 1523.5036123394186, R3_STATE, R3_STATE, R3_D, 0, 0},
         {r3_th, r3_th2d, 856.2225878410742, 1575.9363733204323, R3_UNFOUND, R3_UNFOUND, R3_D, 0, 0},
         {r3_th, r3_th2d, 640, 2100, R3_ACCEPTED, R3_ACCEPTED, R3_D, 9, 292.09255280798175},
+        {r3_th, r3_th2d, 637, 2110, R3_ACCEPTED, R3_ACCEPTED, R3_D, 10, 277.4177712016782},
+        {r3_ts, r3_ts2d, 625, 4.36, R3_ACCEPTED, R3_ACCEPTED, R3_D, 10, 271.0344006817296},
         {r3_ts, r3_ts2d, 863.15, 4.5, R3_STEP, R3_STEP, R3_D, 0, 0},
         {r3_ts, r3_ts2d, 743.5006480648088, 3.3230225561443656, R3_UNFOUND, R3_UNFOUND, R3_D, 0, 0},
     };
@@ -296,6 +299,7 @@ static void refusals(void) {
     expect(r3_pt(100, 679.5125318168051, r) == R3_STATE && zeros(r, R3_FIELDS), "the found state's p above 100", 100, 679.5125318168051);
     expect(r3_pt(22.064, 647.096, r) == R3_ACCEPTED && same(r[R3_V], 1.0 / 322.0), "the critical point", 22.064, 647.096);
     r3_byte letter = 'q';
+    expect(r3_letter(22.064, 647.096, &letter) == R3_ACCEPTED && letter == 'z', "the letter alone knows no critical point", 22.064, 647.096);
     expect(r3_letter(101, 650, &letter) == R3_FIRST && letter == 0, "a refused letter", 101, 650);
     double x;
     expect(r3_p_saturation(650, &x) == R3_FIRST && same(x, 0.0), "above the saturation line", 650, 0);
@@ -381,6 +385,19 @@ static void forward(void) {
     }
 }
 
+// The version of the archive is the header's, as a number and in its name, and the header's two forms of it agree.
+static void versions(void) {
+    unsigned parts[3] = {0, 0, 0};
+    int dots = 0;
+    for (const char *c = R3_VERSION; *c; c++) {
+        if (*c == '.') dots++;
+        else if (dots < 3) parts[dots] = 10 * parts[dots] + (unsigned)(*c - '0');
+    }
+    expect(dots == 2 && R3_VERSION_NUMBER == 10000 * parts[0] + 100 * parts[1] + parts[2], "the header's version in words and as a number", R3_VERSION_NUMBER, dots);
+    expect(r3_library_version() == R3_VERSION_NUMBER, "the archive's version is the header's", r3_library_version(), R3_VERSION_NUMBER);
+    expect(r3_library_version_0_3_0() == R3_VERSION_NUMBER, "the name with the version in it is of this version", r3_library_version_0_3_0(), R3_VERSION_NUMBER);
+}
+
 // What this header says by itself.
 static void texts(void) {
     static const int numbers[] = {R3_ACCEPTED,     R3_NOT_FINITE,   R3_FIRST,    R3_SECOND,      R3_STATE,        R3_STEP,      R3_PROPERTY,
@@ -406,11 +423,14 @@ static const int modes[] = {0, 0x800000, 0x400000, 0xc00000};
 #error "the rounding modes of this processor are not known here"
 #endif
 
-enum { CALLS = 23, POINTS = 1000 };
+enum { CALLS = 25, POINTS = 1000 };
+static const char *const call_names[CALLS] = {"td", "pt", "ph", "ps", "hs", "property", "letter", "columns", "p_saturation", "t_saturation", "power",
+                                              "root", "logarithm", "exponential", "cp_w", "p_border", "t_border", "pv", "th", "ts", "pv2t", "th2d",
+                                              "ts2d", "read", "write"};
 
 struct answer {
     double numbers[R3_FIELDS];
-    r3_byte refusal, letter, of_row;
+    r3_byte refusal, letter, of_row, bytes[R3_RECORD];
     unsigned trials;
 };
 
@@ -422,14 +442,25 @@ static double uniform(double from, double to) {
 
 struct point {
     double p, t, d, h, s, saturated_p, saturated_t, x, of_state_h, of_state_s;
+    r3_byte record[R3_RECORD];
 };
 
 static struct point any_point(void) {
     struct point z = {uniform(17, 99), uniform(624, 800), uniform(150, 700), uniform(1600, 2800), uniform(3.5, 5.1),
-                      uniform(16.6, 22), uniform(624, 647), uniform(0.5, 2), 0, 0};
+                      uniform(16.6, 22), uniform(624, 647), uniform(0.5, 2), 0, 0, {1, 0, 8}};
     // a search for a state that is none can make 20,000 trials
     r3_property(R3_OH, z.t, z.d, &z.of_state_h);
     r3_property(R3_OS, z.t, z.d, &z.of_state_s);
+    // the exchange record of p and T, the high byte first
+    r3_byte bytes[16];
+    memcpy(bytes, &z.p, 8);
+    memcpy(bytes + 8, &z.t, 8);
+    for (int i = 0; i < 8; i++) {
+        z.record[3 + i] = bytes[7 - i];
+        z.record[14 + i] = bytes[15 - i];
+    }
+    z.record[11] = 2;
+    z.record[13] = 8;
     return z;
 }
 
@@ -458,12 +489,15 @@ static void call_all(struct point z, struct answer *a) {
     a[20].refusal = r3_pv2t(z.p, 1 / z.d, a[20].numbers, &a[20].trials);
     a[21].refusal = r3_th2d(z.t, z.of_state_h, a[21].numbers, &a[21].trials);
     a[22].refusal = r3_ts2d(z.t, z.of_state_s, a[22].numbers, &a[22].trials);
+    a[23].refusal = r3_read(z.record, R3_RECORD, &a[23].letter, a[23].numbers);
+    a[24].refusal = r3_write(R3_PAIR_PT, z.p, z.t, a[24].bytes, R3_RECORD);
 }
 
-// The check of the rounding mode agrees with fegetround. Why it is there: how many calls answer other bits in another mode is printed.
+// The check of the rounding mode agrees with fegetround. Why it is there: all calls but three answer other bits in another mode.
 static void rounding(void) {
     static const char *names[] = {"to nearest", "downward", "upward", "toward zero"};
     static struct answer usual[CALLS], other[CALLS];
+    int in_any[CALLS] = {0}, all = 0;
     for (int m = 0; m < 4; m++) {
         int changed[CALLS] = {0}, calls = 0;
         fesetround(modes[m]);
@@ -478,10 +512,20 @@ static void rounding(void) {
             fesetround(modes[0]);
             for (int k = 0; k < CALLS; k++) changed[k] |= memcmp(usual + k, other + k, sizeof *usual) != 0;
         }
-        for (int k = 0; k < CALLS; k++) calls += changed[k];
+        for (int k = 0; k < CALLS; k++) {
+            calls += changed[k];
+            in_any[k] |= changed[k];
+        }
         if (m == 0) expect(calls == 0, "a call gives the same bits again", m, calls);
         else printf("rounding %s: %d of %d calls answer other bits at some of %d points\n", names[m], calls, CALLS, POINTS);
     }
+    printf("in no mode other bits at these points:");
+    for (int k = 0; k < CALLS; k++) {
+        all += in_any[k];
+        if (!in_any[k]) printf(" r3_%s", call_names[k]);
+    }
+    printf("\n");
+    expect(all == 22 && !in_any[6] && !in_any[11] && !in_any[24], "as region3.h has it: all but r3_letter, r3_root and r3_write", all, CALLS);
 }
 
 int main(void) {
@@ -494,6 +538,7 @@ int main(void) {
     columns();
     exchange();
     forward();
+    versions();
     texts();
     rounding();
     printf("region3.h: %d tried, %d failed\n", tried, failed);

@@ -252,6 +252,36 @@ def decimals(crate):
     return found
 
 
+SERIES = (("src/exp.rt", "    let s{j} = 1.0 + r * {later} / {j}.0;", "    let s{j} = 1.0 + r * ({later} / {j}.0);"),
+          ("specs/Exp.antt", "foldl (λ s j. number 1 ⊕ r ⊗ s ⊘ number j) (number 1) from14",
+           "foldl (λ s j. number 1 ⊕ r ⊗ s ⊘ number j) (number 1 ⊕ r ⊗ (foldl (λ s j. number 1 ⊕ r ⊗ s ⊘ number j) (number 1) {before} ⊘ number {j})) {after}"),
+          ("specs/RawExp.antt", "use mathlib.Core.List.{{foldl}}", "use mathlib.Core.List.{{[], _∷_, foldl}}"),
+          ("specs/RawExp.antt", "foldl (λ s j. add binary64 (float 1) (div binary64 (mul binary64 r s) (float j))) (float 1) from14",
+           "foldl (λ s j. add binary64 (float 1) (div binary64 (mul binary64 r s) (float j))) (add binary64 (float 1) (mul binary64 r (div binary64 "
+           "(foldl (λ s j. add binary64 (float 1) (div binary64 (mul binary64 r s) (float j))) (float 1) {before}) (float {j})))) {after}"),
+          ("proofs/Exps.antt", "use mathlib.Core.Path.{{", "use mathlib.Core.List.{{[], _∷_}}\nuse mathlib.Core.Path.{{"),
+          ("proofs/Exps.antt", "raw-fold (λ _ _ j p. raw-add-from (float 1) (raw-by (float j) (r *ʳ p))) (raw-value (float 1) one-finite) from14",
+           "raw-fold (λ _ _ j p. raw-add-from (float 1) (raw-by (float j) (r *ʳ p))) (raw-add-from (float 1) (r *ʳ raw-by (float {j}) "
+           "(raw-fold (λ _ _ j p. raw-add-from (float 1) (raw-by (float j) (r *ʳ p))) (raw-value (float 1) one-finite) {before}))) {after}"))
+
+
+def regrouped():
+    """The exponential with r*(s/j) for (r*s)/j at one j, in definition, code and proof alike. Not at 1, 2, 4, 8, by which a quotient is exact."""
+    texts, found = trial.files("rules"), []
+    for j in (14, 13, 12, 11, 10, 9, 7, 6, 5, 3):
+        before, after = ("(" + " ∷ ".join([str(k) for k in some] + ["[]"]) + ")" for some in (range(14, j, -1), range(j - 1, 0, -1)))
+        words = {"j": j, "later": "1.0" if j == 14 else f"s{j + 1}", "before": before, "after": after}
+        pairs = []
+        for file, old, new in SERIES:
+            old, new = old.format(**words), new.format(**words)
+            if texts[file].count(old) != 1:
+                raise trial.Bad(f"crate rules, {file}: the text {old!r} is there {texts[file].count(old)} times, and must be once")
+            at = texts[file].index(old)
+            pairs.append(("rules", file, at, at + len(old), new))
+        found.append(Change("rules", "src/exp.rt and specs/Exp.antt", 0, f"j = {j}", "regrouped", f"(r*s)/{j}", f"r*(s/{j})", tuple(pairs)))
+    return found
+
+
 def written(path):
     """The changes of a list: blocks that start with 'name:', each with lines crate:, file:, old:, new:."""
     found, problems = [], []

@@ -35,8 +35,10 @@
 //!
 //! # Linking
 //!
-//! The crate needs `libregion3_c.a`: see its build script, or "Link it" in the repository's README. The archive leaves two symbols to the linker, `memcpy` and `memset`,
-//! and calls no mathematical function of the C library.
+//! The crate needs `libregion3_c.a`, of its own version and for the target's processor, in the repository's target/staticlib (on aarch64 target/native) or in
+//! the folder that `REGION3_LIB` names; a relative one is read from the folder in which cargo was started. Where it is not there the build says so and
+//! ends; `cargo doc` and `cargo check` need none. The archive leaves two symbols to the linker, `memcpy` and `memset`, and calls no mathematical
+//! function of the C library.
 #![allow(non_snake_case)]
 #![deny(missing_docs)]
 #![deny(clippy::undocumented_unsafe_blocks)]
@@ -58,7 +60,7 @@ pub struct Record {
     pub T: Kelvin,
     /// Density.
     pub d: KgPerM3,
-    /// Specific volume in m3/kg: the one that was found, not 1/d worked anew.
+    /// Specific volume in m3/kg. In [`pt`], [`ph`], [`ps`] and [`hs`] an equation's, of which d is the inverse; in the others 1/d.
     pub v: f64,
     /// Pressure. In [`hs`] the backward equation's; in the others worked from the found state, so it need not be the caller's.
     pub p: MPa,
@@ -337,7 +339,13 @@ pub fn cp_w(t: Kelvin, d: KgPerM3) -> CpW {
     }
 }
 
-/// The subregion's letter, 'a' to 'z'.
+/// The version of the library that is linked, 10000 * first + 100 * second + third: this crate's own, since the archive of another does not link.
+pub fn library_version() -> u32 {
+    // SAFETY: the call takes nothing and answers a number.
+    unsafe { raw::r3_library_version_0_3_0() }
+}
+
+/// The subregion's letter, 'a' to 'z'. At the critical point, (22.064, 647.096), it is 'z', where the row of [`columns`] has none.
 ///
 /// For 23 < p <= 25 MPa a theorem says that it is the letter of the exact published boundaries wherever T is a millionth of a kelvin or more away from
 /// each of them; elsewhere it is the letter of the rounded ones.

@@ -1,8 +1,8 @@
 /// A property at a temperature and a density, under its name in seuif97's `property_id.rs`.
 ///
 /// With delta = d / 322 kg/m3, tau = 647.096 K / T, R = 0.461526 kJ/(kg K), and phi the equation of R7-97 (28): a letter after `phi_` stands for a
-/// derivative. Each is worked in the Rust's order of operations. The first eight are R7-97's table 31; of the 17 others IAPWS prints no equation,
-/// so they are proved against the Rust's formulas. **Four are not what their names say**: [`OE`](Property::OE), [`OIJTC`](Property::OIJTC),
+/// derivative. Each is worked in the Rust's order of operations. The eight of the record are R7-97's table 31; IAPWS does not define all of the 17
+/// others, so they are proved against the Rust's formulas. **Four are not what their names say**: [`OE`](Property::OE), [`OIJTC`](Property::OIJTC),
 /// [`OFI`](Property::OFI) and [`OFU`](Property::OFU).
 ///
 /// Where a formula uses p, a p outside 16.529 to 100 MPa is refused with [`Refusal::State`](crate::Refusal::State): these are `OP`, `OKS`, `OZ`,
@@ -70,7 +70,7 @@ pub enum Property {
     /// **Warning:** off by the factor of `OFI`: at (750 K, 500 kg/m3) 3.32441 MPa in place of 36.8146.
     OFU = 34,
     /// Relative pressure coefficient, 1/K: the expansion coefficient / p / the isothermal compressibility. The quantity of `OPC` by another formula,
-    /// up to 9.1e-16 of it apart.
+    /// up to 1.1e-15 of it apart.
     OALFAP = 35,
 }
 

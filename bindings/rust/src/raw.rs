@@ -37,3 +37,8 @@ extern "C" {
     pub fn r3_logarithm(x: f64, out: *mut f64) -> u8;
     pub fn r3_exponential(x: f64, out: *mut f64) -> u8;
 }
+
+// The version of the archive, by the name that this version alone has.
+extern "C" {
+    pub fn r3_library_version_0_3_0() -> u32;
+}

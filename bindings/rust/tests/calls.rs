@@ -67,6 +67,10 @@ fn searched_states() {
     let d = |s: Searched<Record>| (s.found.d.0, s.trials);
     assert_eq!(th(Kelvin(700.0), KJPerKg(2500.0)).map(d), Ok((235.3422999307922, 7)));
     assert_eq!(th(Kelvin(640.0), KJPerKg(2100.0)).map(d), Ok((292.09255280798175, 9)));
+    assert_eq!(th(Kelvin(637.0), KJPerKg(2110.0)).map(d), Ok((277.4177712016782, 10)));
+    assert_eq!(ts(Kelvin(625.0), KJPerKgK(4.36)).map(d), Ok((271.0344006817296, 10)));
+    assert_eq!(th_to_d(Kelvin(637.0), KJPerKg(2110.0)).map(|s| s.trials), Ok(10));
+    assert_eq!(ts_to_d(Kelvin(625.0), KJPerKgK(4.36)).map(|s| s.trials), Ok(10));
     let (t, h) = (Kelvin(859.1136650031038), KJPerKg(2620.270705157618));
     assert_eq!(th_to_d(t, h), Ok(Searched { found: KgPerM3(555.121869599535), trials: 8 }));
     assert_eq!(th(t, h), Err(Refusal::State));
@@ -77,6 +81,12 @@ fn searched_states() {
     let again = ts(state.T, state.s).unwrap();
     assert!((again.found.s.0 - state.s.0).abs() <= 1e-6 && again.trials > 0);
     assert_eq!(ts_to_d(state.T, state.s), Ok(Searched { found: again.found.d, trials: again.trials }));
+}
+
+#[test]
+fn the_archive_has_the_version_of_the_crate() {
+    let parts: Vec<u32> = env!("CARGO_PKG_VERSION").split('.').map(|part| part.parse().unwrap()).collect();
+    assert_eq!(library_version(), 10000 * parts[0] + 100 * parts[1] + parts[2]);
 }
 
 #[test]

@@ -49,3 +49,6 @@ r3_byte r3_write(r3_byte pair, double a, double b, r3_byte *out, r3_size length)
     if (length) out[0] = pair + (a < b);
     return 200;
 }
+
+unsigned r3_library_version(void) { return R3_VERSION_NUMBER; }
+unsigned r3_library_version_0_3_0(void) { return R3_VERSION_NUMBER; }

@@ -23,7 +23,7 @@ pub hs2p-reg3-one : One 0 own.region3_p_hs.hs2p_reg3.Kinds.ps own.region3_p_hs.h
 hs2p-reg3-one κs a e x y p q = same-answer _ x y p q
 
 answerOf : Outcome Tvd → TvdAnswer
-answerOf (value s) = founds.Value (s .T) (s .v) (s .d)
+answerOf (value s) = founds.Value (record { 0 = s .T }) (record { 0 = s .v }) (record { 0 = s .d })
 answerOf (refused k) = founds.Refused (kindOf k)
 
 back : (f : TvdAnswer) → answerOf (paperTvd f) ≡ f

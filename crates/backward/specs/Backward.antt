@@ -10,15 +10,13 @@ use Rattle.common.specs.Decimal.{plus, minus, whole, negative}
 use Rattle.common.specs.Constant.{SC-WATER}
 use Rattle.common.specs.Range.{hsBox, phBox, psBox}
 use Rattle.record.specs.State.{pressureOf, temperatureOf, densityOf, volumeOf}
-use Rattle.backward_equations.specs.Equation.{worked}
-use Rattle.backward.specs.declared.Side.{Side}
-use Rattle.backward.specs.declared.Side.the-variants.{A, B}
+use Rattle.backward_equations.specs.Equation.{ph2T-on, ph2v-on, ps2T-on, ps2v-on, hs2p-on}
+use Rattle.backward_equations.specs.declared.Side.{Side}
+use Rattle.backward_equations.specs.declared.Side.the-variants.{A, B}
 use Rattle.backward.specs.declared.SideAnswer.{SideAnswer}
 use Rattle.backward.specs.declared.SideAnswer.the-variants as sides
 use Rattle.backward.specs.declared.TvdAnswer.{TvdAnswer}
 use Rattle.backward.specs.declared.TvdAnswer.the-variants as founds
-use Rattle.backward_equations.specs.declared.Equation.{Equation}
-use Rattle.backward_equations.specs.declared.Equation.the-variants.{T3aPh, T3bPh, V3aPh, V3bPh, T3aPs, T3bPs, V3aPs, V3bPs, P3aHs, P3bHs}
 
 abbrev pub n1 : Outcome Float
 n1 = value (plus 15 0_201464004206875 (pos 4))
@@ -54,33 +52,24 @@ side-ph p h = then (h3ab p) (λ line. value (cond (le h line) A B))
 abbrev pub side-s : Float → Side
 side-s s = cond (le s SC-WATER) A B
 
--- the equation of a side
-abbrev pub ofSide : Side → Equation → Equation → Equation
-ofSide A a b = a
-ofSide B a b = b
-
--- what an entropy gives, with p or h as x, by the equation of its side
-abbrev pub by-s : Equation → Equation → Float → Float → Outcome Float
-by-s a b x s = worked (ofSide (side-s s) a b) x s
-
 -- ---- the calls
 
 unfoldable pub ph2T-reg3Rule : Float → Float → Outcome Float
 unfolding side-ph
-ph2T-reg3Rule p h = then (phBox p h) (λ _. then (side-ph p h) (λ side. temperatureOf (worked (ofSide side T3aPh T3bPh) p h)))
+ph2T-reg3Rule p h = then (phBox p h) (λ _. then (side-ph p h) (λ side. temperatureOf (ph2T-on side p h)))
 
 unfoldable pub ph2v-reg3Rule : Float → Float → Outcome Float
 unfolding side-ph
-ph2v-reg3Rule p h = then (phBox p h) (λ _. then (side-ph p h) (λ side. volumeOf (worked (ofSide side V3aPh V3bPh) p h)))
+ph2v-reg3Rule p h = then (phBox p h) (λ _. then (side-ph p h) (λ side. volumeOf (ph2v-on side p h)))
 
 unfoldable pub ps2T-reg3Rule : Float → Float → Outcome Float
-ps2T-reg3Rule p s = then (psBox p s) (λ _. temperatureOf (by-s T3aPs T3bPs p s))
+ps2T-reg3Rule p s = then (psBox p s) (λ _. temperatureOf (ps2T-on (side-s s) p s))
 
 unfoldable pub ps2v-reg3Rule : Float → Float → Outcome Float
-ps2v-reg3Rule p s = then (psBox p s) (λ _. volumeOf (by-s V3aPs V3bPs p s))
+ps2v-reg3Rule p s = then (psBox p s) (λ _. volumeOf (ps2v-on (side-s s) p s))
 
 unfoldable pub hs2p-reg3Rule : Float → Float → Outcome Float
-hs2p-reg3Rule h s = then (hsBox h s) (λ _. pressureOf (by-s P3aHs P3bHs h s))
+hs2p-reg3Rule h s = then (hsBox h s) (λ _. pressureOf (hs2p-on (side-s s) h s))
 
 -- ---- what a record is worked from, at any p, h and s: no box is looked at
 
@@ -91,7 +80,7 @@ pub record Tvd : Type 0 where
 
 -- the paper's number and values for each case
 abbrev pub paperTvd : TvdAnswer → Outcome Tvd
-paperTvd (founds.Value t v d) = value (record { T = t; v = v; d = d })
+paperTvd (founds.Value t v d) = value (record { T = t .0; v = v .0; d = d .0 })
 paperTvd (founds.Refused k) = refused (numberOf k)
 
 -- T with its test, v, d = 1/v with its test
@@ -100,7 +89,7 @@ tvdOf ofT ofV = then (temperatureOf ofT) (λ t. then ofV (λ v. then (densityOf 
 
 unfoldable pub tvd-ph : Float → Float → Outcome Tvd
 unfolding side-ph
-tvd-ph p h = then (side-ph p h) (λ side. tvdOf (worked (ofSide side T3aPh T3bPh) p h) (worked (ofSide side V3aPh V3bPh) p h))
+tvd-ph p h = then (side-ph p h) (λ side. tvdOf (ph2T-on side p h) (ph2v-on side p h))
 
 unfoldable pub tvd-ps : Float → Float → Outcome Tvd
-tvd-ps p s = tvdOf (by-s T3aPs T3bPs p s) (by-s V3aPs V3bPs p s)
+tvd-ps p s = tvdOf (ps2T-on (side-s s) p s) (ps2v-on (side-s s) p s)

@@ -1,7 +1,6 @@
 // Pressure from (h,s): S04rev.
-use crate::region3_Tv_phps::raw_on;
 use crate::region3_Tv_phps::side_s;
-use backward_equations::Equation;
+use backward_equations::raw_hs2p;
 use common::Answer;
 use common::KJPerKg;
 use common::KJPerKgK;
@@ -18,9 +17,7 @@ pub fn hs2p_reg3(h: KJPerKg, s: KJPerKgK) -> Answer
     ensures { λ r. ⌜ paper r ≡ hs2p-reg3Rule (h .0) (s .0) ⌝ }
 {
     match check_hs(h, s) {
-        Verdict::Accepted => {
-            settle_p(MPa(raw_on(side_s(s.0), Equation::P3aHs, Equation::P3bHs, h.0, s.0)))
-        }
+        Verdict::Accepted => settle_p(MPa(raw_hs2p(side_s(s), h, s))),
         Verdict::Refused(k) => Answer::Refused(k),
     }
 }

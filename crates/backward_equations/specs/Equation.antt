@@ -10,6 +10,8 @@ use Rattle.algo.specs.Table.{sumOf}
 use Rattle.printed.specs.Backward.{table-t3a-ph, table-t3b-ph, table-v3a-ph, table-v3b-ph, table-t3a-ps, table-t3b-ps, table-v3a-ps, table-v3b-ps, table-p3a-hs, table-p3b-hs}
 use Rattle.backward_equations.specs.declared.Equation.{Equation}
 use Rattle.backward_equations.specs.declared.Equation.the-variants.{T3aPh, T3bPh, V3aPh, V3bPh, T3aPs, T3bPs, V3aPs, V3bPs, P3aHs, P3bHs}
+use Rattle.backward_equations.specs.declared.Side.{Side}
+use Rattle.backward_equations.specs.declared.Side.the-variants.{A, B}
 use Rattle.backward_equations.specs.declared.Form.{Form}
 use Rattle.backward_equations.specs.declared.Form.the-variants.{Plus, Less, Over}
 
@@ -47,3 +49,25 @@ workedBy (Over z xs a ys b) rows x y = value z ⊘ sumOf (value x ⊘ value xs �
 unfoldable pub worked : Equation → Float → Float → Outcome Float
 unfolding workedBy
 worked e x y = workedBy (formOf e) (tableOf e) x y
+
+-- ---- by the side
+
+-- the equation of a side
+abbrev pub ofSide : Side → Equation → Equation → Equation
+ofSide A a b = a
+ofSide B a b = b
+
+abbrev pub ph2T-on : Side → Float → Float → Outcome Float
+ph2T-on side p h = worked (ofSide side T3aPh T3bPh) p h
+
+abbrev pub ph2v-on : Side → Float → Float → Outcome Float
+ph2v-on side p h = worked (ofSide side V3aPh V3bPh) p h
+
+abbrev pub ps2T-on : Side → Float → Float → Outcome Float
+ps2T-on side p s = worked (ofSide side T3aPs T3bPs) p s
+
+abbrev pub ps2v-on : Side → Float → Float → Outcome Float
+ps2v-on side p s = worked (ofSide side V3aPs V3bPs) p s
+
+abbrev pub hs2p-on : Side → Float → Float → Outcome Float
+hs2p-on side h s = worked (ofSide side P3aHs P3bHs) h s

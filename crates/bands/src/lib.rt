@@ -1,16 +1,9 @@
-// The bands by p away from the critical point. Each works its boundaries out, hands them to its chooser, and tests once that none is lost that can be: a
-// number less itself is 0, or a NaN where it is lost (proofs/Lost). Between 19 and 25 MPa no power of p and no sum in p can be lost (boundaries/proofs/Kept):
-// the bands there work the rows in p with no look at the powers and no test. Which p has which band is in crate boundary.
-use boundaries::AB;
-use boundaries::CD;
-use boundaries::GH;
-use boundaries::IJ;
-use boundaries::JK;
-use boundaries::MN;
-use boundaries::OP;
-use boundaries::bare_tabled;
-use boundaries::straight;
-use boundaries::tabled;
+// The bands by p away from the critical point. Each works its boundaries out and hands them to its chooser. Then one test refuses with 5 if any of them is
+// not finite: a number less itself is 0, or a NaN where it is not finite (proofs/Lost). Between 19 and 25 MPa no power of p and no polynomial in p can be so
+// (boundaries/proofs/Kept): the bands there take their bare forms, and test the other boundaries alone. Which p has which band is in crate boundary.
+use boundaries::Boundary;
+use boundaries::bare_boundary;
+use boundaries::raw_boundary;
 use choosers::by_ab;
 use choosers::by_cdef;
 use choosers::by_chijk;
@@ -44,16 +37,16 @@ pub fn answered(l: Letter, x: f64) -> LetterAnswer
 pub fn band_ab(p: MPa, t: Kelvin) -> LetterAnswer
     ensures { λ r. ⌜ paperLetter r ≡ rawAb (p .0) (t .0) ⌝ }
 {
-    let tab = tabled(AB, p);
+    let tab = raw_boundary(Boundary::Ab, p);
     answered(by_ab(Kelvin(tab), t), tab)
 }
 
 pub fn band_cdef(p: MPa, t: Kelvin) -> LetterAnswer
     ensures { λ r. ⌜ paperLetter r ≡ rawCdef (p .0) (t .0) ⌝ }
 {
-    let tab = tabled(AB, p);
-    let tcd = tabled(CD, p);
-    let tef = straight(p);
+    let tab = raw_boundary(Boundary::Ab, p);
+    let tcd = raw_boundary(Boundary::Cd, p);
+    let tef = raw_boundary(Boundary::Ef, p);
     answered(
         by_cdef(Kelvin(tcd), Kelvin(tab), Kelvin(tef), t),
         (tab - tab) + (tcd - tcd) + (tef - tef),
@@ -63,12 +56,11 @@ pub fn band_cdef(p: MPa, t: Kelvin) -> LetterAnswer
 pub fn band_chijk(second: Letter, p: MPa, t: Kelvin) -> Letter
     ensures { λ r. ⌜ r ≡ rawChijk second (p .0) (t .0) ⌝ }
 {
-    let x = p.0;
-    let tcd = bare_tabled(CD, x);
-    let tef = straight(p);
-    let tgh = bare_tabled(GH, x);
-    let tij = bare_tabled(IJ, x);
-    let tjk = bare_tabled(JK, x);
+    let tcd = bare_boundary(Boundary::Cd, p);
+    let tef = raw_boundary(Boundary::Ef, p);
+    let tgh = bare_boundary(Boundary::Gh, p);
+    let tij = bare_boundary(Boundary::Ij, p);
+    let tjk = bare_boundary(Boundary::Jk, p);
     by_chijk(
         second,
         Kelvin(tcd),
@@ -83,14 +75,13 @@ pub fn band_chijk(second: Letter, p: MPa, t: Kelvin) -> Letter
 pub fn band_clmnopjk(p: MPa, t: Kelvin) -> LetterAnswer
     ensures { λ r. ⌜ paperLetter r ≡ rawClmnopjk (p .0) (t .0) ⌝ }
 {
-    let x = p.0;
-    let tcd = bare_tabled(CD, x);
-    let tef = straight(p);
-    let tgh = bare_tabled(GH, x);
-    let tij = bare_tabled(IJ, x);
-    let tjk = bare_tabled(JK, x);
-    let tmn = bare_tabled(MN, x);
-    let top = tabled(OP, p);
+    let tcd = bare_boundary(Boundary::Cd, p);
+    let tef = raw_boundary(Boundary::Ef, p);
+    let tgh = bare_boundary(Boundary::Gh, p);
+    let tij = bare_boundary(Boundary::Ij, p);
+    let tjk = bare_boundary(Boundary::Jk, p);
+    let tmn = bare_boundary(Boundary::Mn, p);
+    let top = raw_boundary(Boundary::Op, p);
     answered(
         by_clmnopjk(
             Kelvin(tcd),
@@ -109,9 +100,8 @@ pub fn band_clmnopjk(p: MPa, t: Kelvin) -> LetterAnswer
 pub fn band_csrk(p: MPa, t: Kelvin) -> LetterAnswer
     ensures { λ r. ⌜ paperLetter r ≡ rawCsrk (p .0) (t .0) ⌝ }
 {
-    let x = p.0;
-    let tcd = bare_tabled(CD, x);
-    let tjk = bare_tabled(JK, x);
+    let tcd = bare_boundary(Boundary::Cd, p);
+    let tjk = bare_boundary(Boundary::Jk, p);
     let tsat = raw_T_saturation(p);
     answered(by_csrk(Kelvin(tcd), Kelvin(tsat), Kelvin(tjk), t), tsat)
 }
@@ -119,8 +109,7 @@ pub fn band_csrk(p: MPa, t: Kelvin) -> LetterAnswer
 pub fn band_cst(p: MPa, t: Kelvin) -> LetterAnswer
     ensures { λ r. ⌜ paperLetter r ≡ rawCst (p .0) (t .0) ⌝ }
 {
-    let x = p.0;
-    let tcd = bare_tabled(CD, x);
+    let tcd = bare_boundary(Boundary::Cd, p);
     let tsat = raw_T_saturation(p);
     answered(by_cst(Kelvin(tcd), Kelvin(tsat), t), tsat)
 }

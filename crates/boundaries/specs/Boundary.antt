@@ -1,4 +1,4 @@
--- The twelve boundaries between the subregions of region 3 as S05rev prints them: equations 1 and 2 with one table, which is passed on from
+-- To believe: the twelve boundaries between the subregions of region 3 as S05rev prints them: equations 1 and 2 with one table, which is passed on from
 -- printed_lines/specs/Boundaries, and equation 3. In order: the walk over a row, which boundary is which row, the call. Assumes nothing: these are definitions.
 use Rattle.common.specs.Formula.{_⊕_, _⊖_, _⊗_}
 use Prim.Native.Nat.{ℕ, zero, suc}

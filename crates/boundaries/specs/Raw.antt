@@ -1,10 +1,8 @@
--- Helps proofs only: a row of the code as a row of the table, and the walk with no check, by the rule's powers and by powers with no look at them.
--- Assumes nothing: these are definitions.
-use Prim.Native.Nat.{ℕ}
-use mathlib.Core.Bool.{Bool, true, false, cond}
+-- Helps proofs only: a row of the code as a row of the table, and a boundary's number with no check. Assumes nothing: these are definitions.
+use mathlib.Core.Bool.{Bool, true, false}
 use mathlib.Core.List.{List, [], _∷_}
 use mathlib.Core.Path.{_≡_}
-use lib.Dec.{eqb, leb}
+use lib.Dec.{leb}
 use lib.IntN.{ℤ, natAbs}
 use lib.Ieee.{Float, binary64, add, sub, mul}
 use Rattle.common.specs.Outcome.{check, orNan, zeroF}
@@ -14,9 +12,11 @@ use Rattle.rules.specs.Power.{powerRule}
 use Rattle.rules.specs.RawPower.{rawPower}
 use Rattle.inverses.specs.Log.{logarithmRule}
 use Rattle.boundaries.specs.Boundary as paper
-use Rattle.boundaries.specs.Boundary.{Term, term, Argument, inP, inLn, row, rowAt}
+use Rattle.boundaries.specs.Boundary.{term, Argument, inP, inLn, row, rowAt, Form, tabled, straight, formOf}
 use Rattle.boundaries.specs.declared.Boundary.{Boundary}
-use Rattle.boundaries.specs.declared.Boundary.the-variants.{Ab, Cd, Ef, Gh, Ij, Jk, Mn, Op, Qu, Rx, Uv, Wx}
+use Rattle.boundaries.specs.declared.table.Term.{Term}
+use Rattle.boundaries.specs.declared.table.Fifth.{Fifth}
+use Rattle.boundaries.specs.declared.table.Fifth.the-variants.{Absent, Present}
 use Rattle.boundaries.specs.declared.table.Row.{Row}
 
 -- ---- a row of the code
@@ -25,27 +25,15 @@ abbrev pub argumentOf : Bool → Argument
 argumentOf true = inLn
 argumentOf false = inP
 
--- the fifth term, where the count is not 4
-abbrev pub fifthOf : ℕ → Term → List Term
-fifthOf k t = cond (eqb k 4) [] (t ∷ [])
+abbrev pub termOf : Term → paper.Term
+termOf t = term (t .0) (t .1)
 
-abbrev pub printed : Row → paper.Row
-printed r = row (argumentOf (r .ln)) (term (r .i1) (r .n1) ∷ term (r .i2) (r .n2) ∷ term (r .i3) (r .n3) ∷ term (r .i4) (r .n4) ∷ fifthOf (r .count) (term (r .i5) (r .n5)))
+abbrev pub fifthOf : Fifth → List paper.Term
+fifthOf Absent = []
+fifthOf (Present t) = termOf t ∷ []
 
--- the place of a boundary's row, and 11 for 3ef
-abbrev pub placeOf : Boundary → ℕ
-placeOf Ab = 0
-placeOf Cd = 1
-placeOf Ef = 11
-placeOf Gh = 2
-placeOf Ij = 3
-placeOf Jk = 4
-placeOf Mn = 5
-placeOf Op = 6
-placeOf Qu = 7
-placeOf Rx = 8
-placeOf Uv = 9
-placeOf Wx = 10
+abbrev pub rowOf : Row → paper.Row
+rowOf r = row (argumentOf (r .ln)) (termOf (r .t1) ∷ termOf (r .t2) ∷ termOf (r .t3) ∷ termOf (r .t4) ∷ fifthOf (r .t5))
 
 -- ---- the walk: a lost number is the result
 
@@ -56,30 +44,35 @@ rawArgument inLn p = orNan (logarithmRule p)
 abbrev pub argumentIn : paper.Row → Argument
 argumentIn (row a ts) = a
 
--- by the rule's powers, a NaN for one that is refused
-abbrev pub rawTerm : Float → Term → Float
-rawTerm x (term i n) = mul binary64 n (orNan (powerRule x i))
+-- a power: bare, with no look at it, or by the rule, a NaN where that refuses
+abbrev pub powerBy : Bool → Float → ℤ → Float
+powerBy true x i = rawPower x i
+powerBy false x i = orNan (powerRule x i)
 
-unfoldable pub rawSum : paper.Row → Float → Float
+abbrev pub rawTerm : Bool → Float → paper.Term → Float
+rawTerm bare x (term i n) = mul binary64 n (powerBy bare x i)
+
+unfoldable pub rawSum : Bool → paper.Row → Float → Float
 unfolding rawTotal
-rawSum (row a ts) x = rawTotal (rawTerm x) zeroF ts
+rawSum bare (row a ts) x = rawTotal (rawTerm bare x) zeroF ts
 
--- the temperature by the row at place k
-abbrev pub rawTabled : ℕ → Float → Float
-rawTabled k p = rawSum (rowAt k) (rawArgument (argumentIn (rowAt k)) p)
+-- ---- a boundary's number: its row's sum, or 3ef's line
 
--- 3ef
-abbrev pub rawStraight : Float → Float
-rawStraight p = add binary64 (mul binary64 (decimal 3_727888004 9) (sub binary64 p (decimal 22_064 3))) (decimal 647_096 3)
+abbrev pub rawForm : Bool → Form → Float → Float
+rawForm bare (tabled k) p = rawSum bare (rowAt k) (rawArgument (argumentIn (rowAt k)) p)
+rawForm bare straight p = add binary64 (mul binary64 (decimal 3_727888004 9) (sub binary64 p (decimal 22_064 3))) (decimal 647_096 3)
 
--- by powers with no look at them
-abbrev pub bareTerm : Float → Term → Float
-bareTerm x (term i n) = mul binary64 n (rawPower x i)
+abbrev pub rawAt : Boundary → Float → Float
+rawAt b p = rawForm false (formOf b) p
 
-unfoldable pub bareSum : paper.Row → Float → Float
-unfolding rawTotal
-bareSum (row a ts) x = rawTotal (bareTerm x) zeroF ts
+abbrev pub bareAt : Boundary → Float → Float
+bareAt b p = rawForm true (formOf b) p
 
--- x at which these are the rule's, as far as a row goes
+-- ---- bare powers
+
+abbrev pub bareTerm : Float → paper.Term → Float
+bareTerm x t = rawTerm true x t
+
+-- x at which they are the rule's, as far as a row goes
 abbrev pub Bare : Float → Type 0
 Bare x = (i : ℤ) → leb (natAbs i) 4 ≡ true → powerRule x i ≡ check (rawPower x i)

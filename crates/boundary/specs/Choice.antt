@@ -1,4 +1,4 @@
--- The choice of a subregion's letter, as docs/SCOPE.md has it: the boundaries of a band worked out in the Rust's order, the first that is refused
+-- To believe: the choice of a subregion's letter, as docs/SCOPE.md has it: the boundaries of a band worked out in the Rust's order, the first that is refused
 -- deciding, and the letter by the chooser of the band. Assumes nothing: these are definitions.
 use mathlib.Core.Bool.{cond}
 use lib.Ieee.{Float, lt}

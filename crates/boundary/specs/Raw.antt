@@ -1,5 +1,5 @@
--- Helps proofs only: the letter of each band round the critical point by its boundaries worked raw, 5 if one of them is lost that can be lost
--- there; the other bands are in bands/specs/Bands. Assumes nothing: these are definitions.
+-- Helps proofs only: the letter of each band round the critical point by its boundaries worked raw, 5 where one of those that it tests is lost; the other
+-- bands are in bands/specs/Bands. Assumes nothing: these are definitions.
 use mathlib.Core.Bool.{cond}
 use mathlib.Core.List.{[], _∷_}
 use lib.Ieee.{Float, lt}
@@ -7,8 +7,9 @@ use Rattle.common.specs.Outcome.{Outcome, value}
 use Rattle.common.specs.Decimal.{decimal}
 use Rattle.subregion.specs.declared.Letter.{Letter}
 use Rattle.choosers.specs.Choosers.{around, uvwxBy, uyzxBy, saturatedBy}
-use Rattle.boundaries.specs.Raw.{rawTabled, rawStraight}
-use Rattle.bands.specs.Bands.{ifAll, bareAt, saturated}
+use Rattle.boundaries.specs.Raw.{rawAt, bareAt}
+use Rattle.boundaries.specs.declared.Boundary.the-variants.{Cd, Ef, Jk, Qu, Rx, Uv, Wx}
+use Rattle.bands.specs.Bands.{ifAll, saturated}
 
 -- the near-critical letters up to 22.11 MPa
 abbrev pub rawTo2211 : Float → Float → Float → Float → Float → Outcome Letter
@@ -18,8 +19,8 @@ rawTo2211 tuv twx tef p t =
 
 abbrev pub rawNear : Float → Float → Outcome Letter
 rawNear p t =
-    cond (lt (decimal 22_11 2) p) (ifAll (rawTabled 10 p ∷ []) (uvwxBy (bareAt 9 p) (rawStraight p) (rawTabled 10 p) t))
-    (rawTo2211 (bareAt 9 p) (rawTabled 10 p) (rawStraight p) p t)
+    cond (lt (decimal 22_11 2) p) (ifAll (rawAt Wx p ∷ []) (uvwxBy (bareAt Uv p) (rawAt Ef p) (rawAt Wx p) t))
+    (rawTo2211 (bareAt Uv p) (rawAt Wx p) (rawAt Ef p) p t)
 
 abbrev pub rawCq-rk : Float → Float → Outcome Letter
-rawCq-rk p t = around (bareAt 1 p) (bareAt 7 p) (bareAt 8 p) (bareAt 4 p) t value (rawNear p t)
+rawCq-rk p t = around (bareAt Cd p) (bareAt Qu p) (bareAt Rx p) (bareAt Jk p) t value (rawNear p t)

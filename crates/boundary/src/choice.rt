@@ -1,5 +1,5 @@
-// The letter by p and t: which band p lies in, and the bands round the critical point, which work their boundaries out and test once that none is lost that
-// can be, as the other bands do (crate bands). Last the call, behind its box and the border with region 2.
+// The letter by p and t: which band p lies in, and the bands round the critical point, which work their boundaries out and test once those that may not be
+// finite, as the other bands do (crate bands). Last the call, behind its box and the border with region 2.
 use bands::answered;
 use bands::band_ab;
 use bands::band_cdef;
@@ -9,15 +9,9 @@ use bands::band_csrk;
 use bands::band_cst;
 use bands::band_ct;
 use border::check_region3;
-use boundaries::CD;
-use boundaries::JK;
-use boundaries::QU;
-use boundaries::RX;
-use boundaries::UV;
-use boundaries::WX;
-use boundaries::bare_tabled;
-use boundaries::straight;
-use boundaries::tabled;
+use boundaries::Boundary;
+use boundaries::bare_boundary;
+use boundaries::raw_boundary;
 use choosers::Near;
 use choosers::by_saturated;
 use choosers::by_uvwx;
@@ -59,11 +53,10 @@ fn up_to_22_11(tuv: f64, twx: f64, tef: f64, p: MPa, t: Kelvin) -> LetterAnswer
 fn band_near(p: MPa, t: Kelvin) -> LetterAnswer
     ensures { λ r. ⌜ paperLetter r ≡ rawNear (p .0) (t .0) ⌝ }
 {
-    let x = p.0;
-    let tuv = bare_tabled(UV, x);
-    let twx = tabled(WX, p);
-    let tef = straight(p);
-    if x > 22.11 {
+    let tuv = bare_boundary(Boundary::Uv, p);
+    let twx = raw_boundary(Boundary::Wx, p);
+    let tef = raw_boundary(Boundary::Ef, p);
+    if p.0 > 22.11 {
         return answered(by_uvwx(Kelvin(tuv), Kelvin(tef), Kelvin(twx), t), twx);
     }
     up_to_22_11(tuv, twx, tef, p, t)
@@ -72,11 +65,10 @@ fn band_near(p: MPa, t: Kelvin) -> LetterAnswer
 fn band_cq_rk(p: MPa, t: Kelvin) -> LetterAnswer
     ensures { λ r. ⌜ paperLetter r ≡ rawCq-rk (p .0) (t .0) ⌝ }
 {
-    let x = p.0;
-    let tcd = bare_tabled(CD, x);
-    let tqu = bare_tabled(QU, x);
-    let trx = bare_tabled(RX, x);
-    let tjk = bare_tabled(JK, x);
+    let tcd = bare_boundary(Boundary::Cd, p);
+    let tqu = bare_boundary(Boundary::Qu, p);
+    let trx = bare_boundary(Boundary::Rx, p);
+    let tjk = bare_boundary(Boundary::Jk, p);
     match round_critical(Kelvin(tcd), Kelvin(tqu), Kelvin(trx), Kelvin(tjk), t) {
         Near::Found(l) => LetterAnswer::Value(l),
         Near::Inside => band_near(p, t),

@@ -1,4 +1,4 @@
--- Numbers in bytes, the little end first. Assumes nothing: these are definitions.
+-- To believe: numbers in bytes, the little end first. Assumes nothing: these are definitions.
 use mathlib.Core.Bool.{cond}
 use Prim.Native.Nat.{ℕ, zero, suc, _+_, _*_, _-_, _/_, _%_, _^_}
 use mathlib.Core.List.{List, [], _∷_, _++_}

@@ -4,7 +4,6 @@ use mathlib.Core.Bool.{Bool, false, cond}
 use mathlib.Core.List.{List, [], _∷_}
 use lib.Dec.{eqb}
 use lib.IntN.{ℤ, pos, negsuc}
-use lib.ListN.{drop}
 use lib.Ieee.{Float}
 use Rattle.common.specs.Outcome.{Outcome, value, refused, check, then}
 use Rattle.common.specs.Range.{TdBox}
@@ -65,14 +64,3 @@ formulaIn (named k f ∷ rs) n = cond (isNumber k n) (value f) (formulaIn rs n)
 -- a property by number: 6 comes before 1, 2, 3
 abbrev pub propertyRule : ℤ → Float → Float → Outcome Float
 propertyRule n t d = then (formulaIn properties n) (λ f. called f t d)
-
--- ---- Helps proofs only: the same in any list, the numbers after the first nine, and the last eight
-
-abbrev pub ruleIn : List Named → ℤ → Float → Float → Outcome Float
-ruleIn ns n t d = then (formulaIn ns n) (λ f. called f t d)
-
-abbrev pub later : List Named
-later = drop 9 properties
-
-abbrev pub last : List Named
-last = drop 8 later

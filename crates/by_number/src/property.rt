@@ -59,7 +59,7 @@ use properties::state_p;
 ghost use mathlib.Core.Path.{_≡_};
 ghost use Rattle.common.specs.Outcome.{check};
 ghost use Rattle.common.specs.Answer.{paper};
-ghost use Rattle.by_number.specs.Property.{boxed, later, last, ruleIn, propertyRule};
+ghost use Rattle.by_number.specs.Property.{boxed, propertyRule};
 ghost use Rattle.by_number.specs.Together.{paperCpW, cpAndWRule};
 
 // The checks of the call, then what its formula answers.
@@ -91,40 +91,6 @@ pub fn Td2cp_w_reg3(t: Kelvin, d: KgPerM3) -> CpW
     }
 }
 
-// The last eight numbers.
-fn last_property(t: Kelvin, d: KgPerM3, o_id: i32) -> Answer
-    ensures { λ r. ⌜ paper r ≡ ruleIn last «o_id» (t .0) (d .0) ⌝ }
-{
-    match o_id {
-        ODPDT => settled(t, d, raw_dpdtcv(t, d)),
-        OIJTC => settled(t, d, raw_iJTC(t, d)),
-        OJTC => settled(t, d, raw_joule(t, d)),
-        OPC => answered(t, d, state_pc(t, d)),
-        OBETAP => answered(t, d, state_batap(t, d)),
-        OFI => settled(t, d, raw_fi(t, d)),
-        OFU => answered(t, d, state_fu(t, d)),
-        OALFAP => answered(t, d, state_alfap(t, d)),
-        _ => Answer::Refused(Refusal::Property),
-    }
-}
-
-// The numbers after the first nine.
-fn later_property(t: Kelvin, d: KgPerM3, o_id: i32) -> Answer
-    ensures { λ r. ⌜ paper r ≡ ruleIn later «o_id» (t .0) (d .0) ⌝ }
-{
-    match o_id {
-        OKS => answered(t, d, state_ks(t, d)),
-        OF => settled(t, d, raw_f(t, d)),
-        OG => settled(t, d, raw_g(t, d)),
-        OZ => answered(t, d, state_z(t, d)),
-        OEC => settled(t, d, raw_ec(t, d)),
-        OKT => settled(t, d, raw_kt(t, d)),
-        ODVDT => settled(t, d, raw_dvdtcp(t, d)),
-        ODVDP => settled(t, d, raw_dvdpct(t, d)),
-        _ => last_property(t, d, o_id),
-    }
-}
-
 // A property by its number: 6 for any other number, before 1, 2, 3.
 pub fn Td_thermal_reg3(t: Kelvin, d: KgPerM3, o_id: i32) -> Answer
     ensures { λ r. ⌜ paper r ≡ propertyRule «o_id» (t .0) (d .0) ⌝ }
@@ -139,6 +105,22 @@ pub fn Td_thermal_reg3(t: Kelvin, d: KgPerM3, o_id: i32) -> Answer
         OCP => Td2cp_w_reg3(t, d).cp,
         OCV => settled(t, d, raw_cv(t, d)),
         OW => Td2cp_w_reg3(t, d).w,
-        _ => later_property(t, d, o_id),
+        OKS => answered(t, d, state_ks(t, d)),
+        OF => settled(t, d, raw_f(t, d)),
+        OG => settled(t, d, raw_g(t, d)),
+        OZ => answered(t, d, state_z(t, d)),
+        OEC => settled(t, d, raw_ec(t, d)),
+        OKT => settled(t, d, raw_kt(t, d)),
+        ODVDT => settled(t, d, raw_dvdtcp(t, d)),
+        ODVDP => settled(t, d, raw_dvdpct(t, d)),
+        ODPDT => settled(t, d, raw_dpdtcv(t, d)),
+        OIJTC => settled(t, d, raw_iJTC(t, d)),
+        OJTC => settled(t, d, raw_joule(t, d)),
+        OPC => answered(t, d, state_pc(t, d)),
+        OBETAP => answered(t, d, state_batap(t, d)),
+        OFI => settled(t, d, raw_fi(t, d)),
+        OFU => answered(t, d, state_fu(t, d)),
+        OALFAP => answered(t, d, state_alfap(t, d)),
+        _ => Answer::Refused(Refusal::Property),
     }
 }

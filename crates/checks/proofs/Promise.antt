@@ -4,12 +4,12 @@ use mathlib.Core.Path.{_≡_, refl}
 use mathlib.Core.Bool.{Bool, true, false, cond}
 use Prim.Native.Nat.{ℕ}
 use lib.Ieee.{Float, nan, inf, fin, binary64, sub, le}
-use Rattle.common.specs.Outcome.{Outcome, value, refused, check, then}
+use Rattle.common.specs.Outcome.{Outcome, value, refused, finite, check, then}
 use Rattle.common.specs.Formula.{_⊖_, sizeOf}
 use Rattle.common.specs.Range.{TdBox}
 use Rattle.common.proofs.Calls.{no-value, went-on}
 use Rattle.properties.specs.Td.{Td2h, Td2s, statePressure}
-use Rattle.checks.specs.Checks.{NEAR, heldTo, checkPRule, checkHRule, checkSRule}
+use Rattle.checks.specs.Checks.{NEAR, heldTo, askedBox, checkPRule, checkHRule, checkSRule}
 
 -- the property that was worked is within 1e-6 of the asked y
 pub record Within (worked : Outcome Float) (y : Float) : Type 0 where
@@ -35,14 +35,22 @@ held y worked u e =
     record { number = x; is = g; near = rw i (taken (le (sizeOf z) NEAR) tt 15 u k) }))
 
 module _ (t d : Float) where
+  -- the arguments that a check takes are in the box of (T,d)
+  pub in-box : (y : Float) (u : Unit) → askedBox t d y ≡ value u → TdBox t d ≡ value u
+  in-box y u e = by (finite y) e
+    where
+      by : (b : Bool) → cond b (TdBox t d) (refused 1) ≡ value u → TdBox t d ≡ value u
+      by true k = k
+      by false k = absurd (no-value k)
+
   pub p-within : (p : Float) (u : Unit) → checkPRule t d p ≡ value u → Within (statePressure (check t) (check d)) p
   unfolding checkPRule
-  p-within p u e = went-on (TdBox t d) _ u _ e (λ _ _ k. held p _ u k)
+  p-within p u e = went-on (askedBox t d p) _ u _ e (λ _ _ k. held p _ u k)
 
   pub h-within : (h : Float) (u : Unit) → checkHRule t d h ≡ value u → Within (Td2h (check t) (check d)) h
   unfolding checkHRule
-  h-within h u e = went-on (TdBox t d) _ u _ e (λ _ _ k. held h _ u k)
+  h-within h u e = went-on (askedBox t d h) _ u _ e (λ _ _ k. held h _ u k)
 
   pub s-within : (s : Float) (u : Unit) → checkSRule t d s ≡ value u → Within (Td2s (check t) (check d)) s
   unfolding checkSRule
-  s-within s u e = went-on (TdBox t d) _ u _ e (λ _ _ k. held s _ u k)
+  s-within s u e = went-on (askedBox t d s) _ u _ e (λ _ _ k. held s _ u k)

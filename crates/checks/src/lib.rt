@@ -18,7 +18,7 @@ use properties::state_p;
 ghost use mathlib.Core.Path.{_≡_};
 ghost use Rattle.common.specs.Outcome.{value};
 ghost use Rattle.common.specs.Answer.{paper, paperVerdict};
-ghost use Rattle.checks.specs.Checks.{judgedBy, heldTo, checkPRule, checkHRule, checkSRule};
+ghost use Rattle.checks.specs.Checks.{judgedBy, heldTo, askedBox, checkPRule, checkHRule, checkSRule};
 
 // How far the property may lie from the asked one.
 const NEAR: f64 = 0.000001;
@@ -55,11 +55,21 @@ fn held(worked: Answer, y: f64) -> Verdict
     }
 }
 
+// The tests before any step: an asked y that is not finite is refused before T and d are looked at.
+fn check_asked(t: Kelvin, d: KgPerM3, y: f64) -> Verdict
+    ensures { λ r. ⌜ paperVerdict r ≡ askedBox (t .0) (d .0) y ⌝ }
+{
+    if is_finite(y) {
+        return check_Td(t, d);
+    }
+    Verdict::Refused(Refusal::NotFinite)
+}
+
 // The p of the state has to be in its range as well: 4 otherwise.
 pub fn check_p(t: Kelvin, d: KgPerM3, p: MPa) -> Verdict
     ensures { λ r. ⌜ paperVerdict r ≡ checkPRule (t .0) (d .0) (p .0) ⌝ }
 {
-    match check_Td(t, d) {
+    match check_asked(t, d, p.0) {
         Verdict::Accepted => held(state_p(t, d), p.0),
         Verdict::Refused(k) => Verdict::Refused(k),
     }
@@ -68,7 +78,7 @@ pub fn check_p(t: Kelvin, d: KgPerM3, p: MPa) -> Verdict
 pub fn check_h(t: Kelvin, d: KgPerM3, h: KJPerKg) -> Verdict
     ensures { λ r. ⌜ paperVerdict r ≡ checkHRule (t .0) (d .0) (h .0) ⌝ }
 {
-    match check_Td(t, d) {
+    match check_asked(t, d, h.0) {
         Verdict::Accepted => held(settle(raw_h(t, d)), h.0),
         Verdict::Refused(k) => Verdict::Refused(k),
     }
@@ -77,7 +87,7 @@ pub fn check_h(t: Kelvin, d: KgPerM3, h: KJPerKg) -> Verdict
 pub fn check_s(t: Kelvin, d: KgPerM3, s: KJPerKgK) -> Verdict
     ensures { λ r. ⌜ paperVerdict r ≡ checkSRule (t .0) (d .0) (s .0) ⌝ }
 {
-    match check_Td(t, d) {
+    match check_asked(t, d, s.0) {
         Verdict::Accepted => held(settle(raw_s(t, d)), s.0),
         Verdict::Refused(k) => Verdict::Refused(k),
     }

@@ -1,4 +1,4 @@
--- The bands by p, and in each the letters by T, from the boundaries as numbers, whatever these are, a NaN too: what works the boundaries out is
+-- To believe: the bands by p, and in each the letters by T, from the boundaries as numbers, whatever these are, a NaN too: what works the boundaries out is
 -- in boundary/specs/Choice.antt. Assumes nothing: these are definitions.
 use mathlib.Core.Bool.{Bool, _&&_, cond}
 use mathlib.Core.List.{List, [], _∷_}
@@ -30,7 +30,7 @@ bandTo40 limit p =
     (cond (lt (whole 23) p) clhijk
     (bandTo23 limit p)))
 
--- Document 01 has no p above 100; the Rust gives it the second band
+-- docs/SCOPE.md has no p above 100; the Rust gives it the second band
 abbrev pub bandOf : Float → Float → Band
 bandOf limit p = cond (lt (whole 40) p) (cond (le p (whole 100)) ab cdef) (bandTo40 limit p)
 

@@ -1,4 +1,4 @@
-// The letters of a band by T, from the numbers of its boundaries, whatever these are: what works the boundaries out is in crate boundary.
+// The letters of a band by T, from the numbers of its boundaries, whatever these are: crates bands and boundary work the boundaries out.
 mod letter_by;
 
 pub use letter_by::Near;

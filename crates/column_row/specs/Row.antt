@@ -8,8 +8,8 @@ use Rattle.column_row.specs.declared.Line.{Line}
 
 -- a row of what (p,T) finds: the origin's byte and d; a refused row holds letter 0, +0.0 and its number
 abbrev pub lineIn : Outcome State → Line
-lineIn (value s) = record { letter = byteOf (s .origin); density = s .d; refusal = 0 }
-lineIn (refused k) = record { letter = 0; density = zeroF; refusal = k }
+lineIn (value s) = record { letter = byteOf (s .origin); density = record { 0 = s .d }; refusal = 0 }
+lineIn (refused k) = record { letter = 0; density = record { 0 = zeroF }; refusal = k }
 
 unfoldable pub rowRule : Float → Float → Line
 rowRule p t = lineIn (foundRule p t)

@@ -1,6 +1,7 @@
 // One row of the column run: a letter byte, a density and a refusal byte from p and T (specs/Row.antt). It is worked in two turns, since a column run
 // works all rows' letters before all densities: `mark` and `stop` where the volume comes from, `line_of` the volume (specs/TwoTurns.antt).
 use common::Kelvin;
+use common::KgPerM3;
 use common::MPa;
 use common::number;
 use origin::OriginAnswer;
@@ -17,10 +18,10 @@ ghost use Rattle.origin.specs.Origin.{paperOrigin};
 ghost use Rattle.column_row.specs.Row.{rowRule};
 ghost use Rattle.column_row.specs.TwoTurns.{markOf, ofMark, lineBy};
 
-// The letter's byte, or 0 where there is none; the density in kg/m3; the refusal's number, or 0.
+// The letter's byte, or 0 where there is none; the density; the refusal's number, or 0.
 pub struct Line {
     pub letter: u8,
-    pub density: f64,
+    pub density: KgPerM3,
     pub refusal: u8,
 }
 
@@ -66,7 +67,7 @@ pub fn line_of(m: u8, k: u8, p: MPa, t: Kelvin) -> Line
     if m == 0 {
         return Line {
             letter: 0,
-            density: 0.0,
+            density: KgPerM3(0.0),
             refusal: k,
         };
     }
@@ -78,7 +79,7 @@ pub fn line_of(m: u8, k: u8, p: MPa, t: Kelvin) -> Line
         },
         StateAnswer::Refused(k) => Line {
             letter: 0,
-            density: 0.0,
+            density: KgPerM3(0.0),
             refusal: number(k),
         },
     }

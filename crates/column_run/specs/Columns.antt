@@ -12,7 +12,7 @@ abbrev pub letterIn : Float → Float → ℕ
 letterIn p t = rowRule p t .letter
 
 abbrev pub densityIn : Float → Float → Float
-densityIn p t = rowRule p t .density
+densityIn p t = rowRule p t .density .0
 
 abbrev pub refusalIn : Float → Float → ℕ
 refusalIn p t = rowRule p t .refusal

@@ -41,7 +41,7 @@ fn fill_rows(ps: &[f64], ts: &[f64], letters: &mut [u8], densities: &mut [f64], 
     while i < ps.len() {
         let line = line_of(letters[i], refusals[i], MPa(ps[i]), Kelvin(ts[i]));
         letters[i] = line.letter;
-        densities[i] = line.density;
+        densities[i] = line.density.0;
         refusals[i] = line.refusal;
         i += 1;
     }

@@ -1,4 +1,4 @@
--- How far each boundary in f64 may lie from the exact one, and up to which p. Assumes nothing: these are definitions.
+-- To believe: how far each boundary in f64 may lie from the exact one, and up to which p. Assumes nothing: these are definitions.
 use Prim.Native.Nat.{ℕ, _^_}
 use lib.Ieee.{Float}
 use Rattle.common.specs.Outcome.{Outcome, value, refused}

@@ -1,4 +1,4 @@
--- The boundaries of region 3 that are polynomials in p, worked out exactly in whole numbers: S05rev, equations 1 and 3, with the coefficients
+-- To believe: the boundaries of region 3 that are polynomials in p, worked out exactly in whole numbers: S05rev, equations 1 and 3, with the coefficients
 -- of table 2 as printed. p is P / 2^48 MPa for a whole P; a temperature is (over - under) / scale K. Assumes nothing: these are definitions.
 use Prim.Native.Nat.{ℕ, suc, _+_, _-_, _*_, _^_}
 use mathlib.Core.Bool.{Bool, true, false, cond}

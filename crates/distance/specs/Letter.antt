@@ -1,4 +1,4 @@
--- The letter of 23 < p ≤ 25 by exact arithmetic, and the premises of demand 3: p is P / 2^48 MPa and T is t / 2^43 K, P and t whole.
+-- To believe: the letter of 23 < p ≤ 25 by exact arithmetic, and the premises of demand 3: p is P / 2^48 MPa and T is t / 2^43 K, P and t whole.
 -- Assumes nothing: these are definitions.
 use mathlib.Core.Bool.{cond}
 use Prim.Native.Nat.{ℕ, _^_}
@@ -26,7 +26,7 @@ five = cd ∷ gh ∷ ef ∷ ij ∷ jk ∷ []
 abbrev pub kelvin : ℕ → Fraction
 kelvin t = ratio t (2 ^ 43)
 
--- S05rev, table 1: c up to 3cd, then up to 3gh the letter `second`, h up to 3ef, i up to 3ij, j up to 3jk, and k
+-- S05rev: c up to 3cd, then up to 3gh the letter `second`, h up to 3ef, i up to 3ij, j up to 3jk, and k
 unfoldable pub lettersWith : Letter → ℕ → ℕ → Letter
 lettersWith second P t =
     cond (atMost (kelvin t) (temperature cd P)) C

@@ -12,7 +12,7 @@ use Rattle.reply.specs.Shape.{refusedBy}
 
 -- a row of the column run: its letter, and the density in the first place
 abbrev pub rowReply : Line → Reply
-rowReply l = record { refusal = l .refusal; letter = l .letter; beside = 0; numbers = l .density ∷ replicate 9 zeroF }
+rowReply l = record { refusal = l .refusal; letter = l .letter; beside = 0; numbers = l .density .0 ∷ replicate 9 zeroF }
 
 -- cp and w together: cp in the first place and w in the second, and w's refusal beside cp's
 abbrev pub cpWReply : CpAndW → Reply

@@ -22,7 +22,7 @@ pub fn row_reply(l: Line) -> Reply
         refusal: l.refusal,
         letter: l.letter,
         beside: 0,
-        numbers: [l.density, 0.0, 0.0, 0.0, 0.0, 0.0, 0.0, 0.0, 0.0, 0.0],
+        numbers: [l.density.0, 0.0, 0.0, 0.0, 0.0, 0.0, 0.0, 0.0, 0.0, 0.0],
     }
 }
 

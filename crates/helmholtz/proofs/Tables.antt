@@ -3,7 +3,6 @@
 use mathlib.Core.Path.{_≡_, refl, sym, ap}
 use mathlib.Core.List.{List}
 use lib.Dec.{T}
-use lib.ListN.{length}
 use lib.Ieee.{Float, nan, inf, fin}
 use Rattle.common.specs.Outcome.{Outcome, refused, check, then, orNan}
 use Rattle.common.proofs.Laws.{Lost, never, next}
@@ -78,11 +77,13 @@ unfolding table30 every
 plain-reached = tt
 
 -- what a sum over table 30 gives by the powers of x and y
-module _ {x y : Float} {wi₀ wi wj₀ wj : List Float} (li : length wi₀ ≡ 129) (lj : length wj₀ ≡ 129) where
-  pub slope-of : Powers x wi₀ wi 11 2 → Powers y wj₀ wj 26 2 → (a b : Order) {s r : Float} → Summed a b wi wj table30 s → r ≡ orNan (gate x y s) → Number (slope a b (check x) (check y)) r
+module _ (x y : Float) {wi₀ wi wj₀ wj : List Float} where
+  pub slope-of : Powers x wi₀ wi 11 2 → Powers y wj₀ wj 26 2 → (a b : Order) {s r : Float} → Summed a b wi wj table30 s → r ≡ orNan (gate x y s) →
+      Number (slope a b (check x) (check y)) r
   slope-of p q a b {r = r} h g =
-      slope-gives a b x y r (slope-ends x y wi wj 11 2 26 2 (powers-hold x wi₀ wi 11 2 li p) (powers-hold y wj₀ wj 26 2 lj q) (reached a b) h g)
+      slope-gives a b x y r (slope-ends x y wi wj 11 2 26 2 (powers-hold x wi₀ wi 11 2 p) (powers-hold y wj₀ wj 26 2 q) (reached a b) h g)
 
-  pub share-of : Powers x wi₀ wi 11 0 → Powers y wj₀ wj 26 0 → (t : Share) {s r : Float} → SharesSummed Zero t wi wj table30 s → r ≡ orNan (gate x y (rawDivided t x y s)) → Number (share t (check x) (check y)) r
+  pub share-of : Powers x wi₀ wi 11 0 → Powers y wj₀ wj 26 0 → (t : Share) {s r : Float} → SharesSummed Zero t wi wj table30 s →
+      r ≡ orNan (gate x y (rawDivided t x y s)) → Number (share t (check x) (check y)) r
   share-of p q t {r = r} h g =
-      share-gives t x y r (share-ends x y wi wj 11 0 26 0 (powers-hold x wi₀ wi 11 0 li p) (powers-hold y wj₀ wj 26 0 lj q) plain-reached h g)
+      share-gives t x y r (share-ends x y wi wj 11 0 26 0 (powers-hold x wi₀ wi 11 0 p) (powers-hold y wj₀ wj 26 0 q) plain-reached h g)

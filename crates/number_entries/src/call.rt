@@ -29,9 +29,9 @@ pub fn ones(entry: Ones, n: i32, a: f64, b: f64) -> Reply
         Ones::Exponential => rules::exponential(a),
         Ones::PSaturation => r4::p_saturation(Kelvin(a)),
         Ones::TSaturation => r4::T_saturation(MPa(a)),
-        Ones::Boundary => return at_boundary(n, a),
+        Ones::Boundary => return at_boundary(n, MPa(a)),
         Ones::Letter => return letter_reply(sub_region3_pT(MPa(a), Kelvin(b))),
-        Ones::LetterVolume => return by_letter(n, a, b),
+        Ones::LetterVolume => return by_letter(n, MPa(a), Kelvin(b)),
     };
     number_reply(x)
 }
@@ -44,7 +44,7 @@ pub fn tens(entry: Tens, n: i32, a: f64, b: f64) -> Reply
     let s = KJPerKgK(b);
     let x = match entry {
         Tens::Volume => pT2v_reg3(p, Kelvin(b)),
-        Tens::PhaseVolume => return by_phase(n, a, b),
+        Tens::PhaseVolume => return by_phase(n, p, Kelvin(b)),
         Tens::PhT => backward::ph2T_reg3(p, h),
         Tens::PhV => backward::ph2v_reg3(p, h),
         Tens::PsT => backward::ps2T_reg3(p, s),

@@ -25,8 +25,8 @@ fn place(n: i32) -> usize
 }
 
 // A boundary by its number.
-pub fn at_boundary(n: i32, p: f64) -> Reply
-    ensures { λ r. ⌜ r ≡ boundaryReply n p ⌝ }
+pub fn at_boundary(n: i32, p: MPa) -> Reply
+    ensures { λ r. ⌜ r ≡ boundaryReply n (p .0) ⌝ }
 {
     let k = place(n);
     if k < 12 {
@@ -45,14 +45,14 @@ pub fn at_boundary(n: i32, p: f64) -> Reply
             Boundary::Wx,
         ];
         let b = boundaries[k];
-        return number_reply(T_atRegionBoundary(MPa(p), b));
+        return number_reply(T_atRegionBoundary(p, b));
     }
     refused(UNKNOWN)
 }
 
 // A volume equation by its letter's ASCII.
-pub fn by_letter(n: i32, p: f64, t: f64) -> Reply
-    ensures { λ r. ⌜ r ≡ letterVolumeReply n p t ⌝ }
+pub fn by_letter(n: i32, p: MPa, t: Kelvin) -> Reply
+    ensures { λ r. ⌜ r ≡ letterVolumeReply n (p .0) (t .0) ⌝ }
 {
     let k = place(n);
     if k < 97 {
@@ -60,20 +60,20 @@ pub fn by_letter(n: i32, p: f64, t: f64) -> Reply
     }
     if k < 123 {
         let l = of_byte(k as u8);
-        return number_reply(pT2v_3subreg(MPa(p), Kelvin(t), l));
+        return number_reply(pT2v_3subreg(p, t, l));
     }
     refused(UNKNOWN)
 }
 
 // A side of the saturation line by its number.
-pub fn by_phase(n: i32, p: f64, t: f64) -> Reply
-    ensures { λ r. ⌜ r ≡ phaseVolumeReply n p t ⌝ }
+pub fn by_phase(n: i32, p: MPa, t: Kelvin) -> Reply
+    ensures { λ r. ⌜ r ≡ phaseVolumeReply n (p .0) (t .0) ⌝ }
 {
     let k = place(n);
     if k < 2 {
         let phases = [Phase::Liquid, Phase::Steam];
         let x = phases[k];
-        return number_reply(pT2v_sat_reg3(MPa(p), Kelvin(t), x));
+        return number_reply(pT2v_sat_reg3(p, t, x));
     }
     refused(UNKNOWN)
 }

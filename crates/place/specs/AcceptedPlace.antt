@@ -1,4 +1,4 @@
--- To believe: from a curve and an asked value to the place that the check accepts, in the order of docs/SCOPE.md: the start points of
+-- To believe: from a curve, with what is asked of it, to the place that the check accepts, in the order of docs/SCOPE.md: the start points of
 -- r3/region3_pair_ext.rs, the search, the proposal's range, the check. Assumes nothing: these are definitions.
 use mathlib.Core.Bool.{Bool, cond}
 use lib.Ieee.{Float}
@@ -14,8 +14,8 @@ use Rattle.secant.specs.Secant.{Proposal, proposalRule}
 use Rattle.secant.specs.declared.Curve.{Curve}
 use Rattle.secant.specs.declared.Curve.the-variants.{Isochore, Enthalpy, Entropy}
 use Rattle.checks.specs.Checks.{checkPRule, checkHRule, checkSRule}
-use Rattle.place.specs.declared.StartsAnswer.{StartsAnswer}
-use Rattle.place.specs.declared.StartsAnswer.the-variants as starts
+use Rattle.place.specs.declared.DensitiesAnswer.{DensitiesAnswer}
+use Rattle.place.specs.declared.DensitiesAnswer.the-variants as densities
 use Rattle.place.specs.declared.FoundAnswer.{FoundAnswer}
 use Rattle.place.specs.declared.FoundAnswer.the-variants as found
 
@@ -36,42 +36,42 @@ densitiesAt t =
     then (B23-T2p t) (λ p. then (densityAt p t) (λ d1. then (densityAt P-TO t) (λ d2. value (record { first = d1; second = d2 }))))
 
 -- on an isochore: 623.15 K and the border with region 2 at the asked p
-unfoldable pub startsOf : Curve → Float → Outcome Starts
+unfoldable pub startsOf : Curve → Outcome Starts
 unfolding densitiesAt
-startsOf (Isochore d) y = then (B23-p2T y) (λ t. value (record { first = T-FROM; second = t }))
-startsOf (Enthalpy t) y = densitiesAt t
-startsOf (Entropy t) y = densitiesAt t
+startsOf (Isochore d p) = then (B23-p2T (p .0)) (λ t. value (record { first = T-FROM; second = t }))
+startsOf (Enthalpy t h) = densitiesAt (t .0)
+startsOf (Entropy t s) = densitiesAt (t .0)
 
-unfoldable pub proposedFor : Curve → Float → Outcome Proposal
+unfoldable pub proposedFor : Curve → Outcome Proposal
 unfolding startsOf
-proposedFor curve y = then (startsOf curve y) (λ s. proposalRule curve y (s .first) (s .second))
+proposedFor curve = then (startsOf curve) (λ s. proposalRule curve (s .first) (s .second))
 
 -- ---- the proposal's range, 4 outside, and then the check
 
 -- T on an isochore, d on an isotherm
 abbrev pub inRange : Curve → Float → Bool
-inRange (Isochore d) x = within T-FROM T-TO x
-inRange (Enthalpy t) x = within D-FROM D-TO x
-inRange (Entropy t) x = within D-FROM D-TO x
+inRange (Isochore d p) x = within T-FROM T-TO x
+inRange (Enthalpy t h) x = within D-FROM D-TO x
+inRange (Entropy t s) x = within D-FROM D-TO x
 
 -- the check at the T and d of a place
-abbrev pub checkOn : Curve → Float → Float → Outcome Unit
-checkOn (Isochore d) y x = checkPRule x d y
-checkOn (Enthalpy t) y x = checkHRule t x y
-checkOn (Entropy t) y x = checkSRule t x y
+abbrev pub checkOn : Curve → Float → Outcome Unit
+checkOn (Isochore d p) x = checkPRule x (d .0) (p .0)
+checkOn (Enthalpy t h) x = checkHRule (t .0) x (h .0)
+checkOn (Entropy t s) x = checkSRule (t .0) x (s .0)
 
-unfoldable pub acceptedAt : Curve → Float → Float → Outcome Unit
-acceptedAt curve y x = cond (inRange curve x) (checkOn curve y x) (refused 4)
+unfoldable pub acceptedAt : Curve → Float → Outcome Unit
+acceptedAt curve x = cond (inRange curve x) (checkOn curve x) (refused 4)
 
-unfoldable pub foundOn : Curve → Float → Outcome Proposal
+unfoldable pub foundOn : Curve → Outcome Proposal
 unfolding proposedFor acceptedAt
-foundOn curve y = then (proposedFor curve y) (λ q. then (acceptedAt curve y (q .x)) (λ _. value q))
+foundOn curve = then (proposedFor curve) (λ q. then (acceptedAt curve (q .x)) (λ _. value q))
 
 -- ---- what the answers say
 
-abbrev pub paperStarts : StartsAnswer → Outcome Starts
-paperStarts (starts.Value a b) = value (record { first = a; second = b })
-paperStarts (starts.Refused k) = refused (numberOf k)
+abbrev pub paperDensities : DensitiesAnswer → Outcome Starts
+paperDensities (densities.Value a b) = value (record { first = a .0; second = b .0 })
+paperDensities (densities.Refused k) = refused (numberOf k)
 
 abbrev pub paperFound : FoundAnswer → Outcome Proposal
 paperFound (found.Value x n) = value (record { x = x; trials = n })

@@ -14,7 +14,7 @@ use Rattle.printed.specs.Backward.{table-t3a-ph, table-t3b-ph, table-v3a-ph, ta
 use Rattle.common.proofs.Printed.{Value, prints, agrees}
 use Rattle.backward_equations.specs.Equation.{worked, workedBy}
 use Rattle.backward.specs.Backward.{h3ab, side-ph, side-s, ph2T-reg3Rule, ph2v-reg3Rule, ps2T-reg3Rule, ps2v-reg3Rule, hs2p-reg3Rule}
-use Rattle.backward.specs.declared.Side.the-variants.{A, B}
+use Rattle.backward_equations.specs.declared.Side.the-variants.{A, B}
 
 pub values : List Value
 values =

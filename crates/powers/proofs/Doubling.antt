@@ -62,7 +62,8 @@ pub at-down : (k : ℕ) → k < 64 → exponentAt (63 - k) ≡ negsuc k
 at-down k h = rw (lt-ltb (63 - k) 64 (omega arith)) (ap negsuc (omega arith))
 
 -- one more power, from the one that stands 2^h before it
-right-up : (a x : Float) (h k : ℕ) → h ≤ 31 → k < 2 ^ h → x ≡ rawPower a (exponentAt (64 + k)) → mul binary64 x (squared h a) ≡ rawPower a (exponentAt (64 + 2 ^ h + k))
+right-up : (a x : Float) (h k : ℕ) → h ≤ 31 → k < 2 ^ h → x ≡ rawPower a (exponentAt (64 + k)) →
+    mul binary64 x (squared h a) ≡ rawPower a (exponentAt (64 + 2 ^ h + k))
 unfolding rawPower
 right-up a x h k l s e =
     let q : 64 + 2 ^ h + k ≡ 64 + (k + 2 ^ h) = omega arith in
@@ -134,7 +135,8 @@ pub written-none : (f : ℤ → Float) (w : List Float) (i : ℕ) → length w �
 written-none f w i e = record { held = has-none f w i e; rest = λ k out. refl }
 
 -- one more, whatever f is
-pub written-next : (f : ℤ → Float) (b w : List Float) (lo k : ℕ) (x : Float) → lo ≤ k → k < 129 → x ≡ f (exponentAt k) → WrittenBy f b w lo k → WrittenBy f b (set w k x) lo (k + 1)
+pub written-next : (f : ℤ → Float) (b w : List Float) (lo k : ℕ) (x : Float) → lo ≤ k → k < 129 → x ≡ f (exponentAt k) →
+    WrittenBy f b w lo k → WrittenBy f b (set w k x) lo (k + 1)
 written-next f b w lo k x l m e h =
     written-set f b w lo k k x h lo (k + 1) (has-set f w lo k k x (h .held) m e lo (k + 1) (λ n p q d. (p, lower n k (omega arith) d))) l (omega arith)
     (λ n p q. (p, omega arith))
@@ -142,16 +144,16 @@ written-next f b w lo k x l m e h =
 pub written-same : (a : Float) (b w : List Float) (lo hi hi' : ℕ) → hi ≡ hi' → Written a b w lo hi → Written a b w lo hi'
 written-same a b w lo hi hi' e f = rw e at f
 
-pub written-one : (a : Float) (w : List Float) → length w ≡ 129 → Written a w (set w 64 one) 64 65
-written-one a w e =
-    written-set (rawPower a) w w 64 64 64 one (record { held = has-none (rawPower a) w 64 e; rest = λ k out. refl }) 64 65 (filled-one a w e) (omega arith) (omega arith)
-    (λ k m n. absurd (omega arith))
+pub written-one : (a : Float) (w v : List Float) → length w ≡ 129 → v ≡ set w 64 one → Written a w v 64 65
+written-one a w v e h =
+    rw h (written-set (rawPower a) w w 64 64 64 one (written-none (rawPower a) w 64 e) 64 65 (filled-one a w e) (omega arith) (omega arith)
+    (λ k m n. absurd (omega arith)))
 
 pub written-up : (a : Float) (b w : List Float) (h k : ℕ) → h ≤ 31 → k < 2 ^ h → 2 ^ h + k < 65 → Written a b w 64 (64 + 2 ^ h + k)
     → Written a b (set w (64 + 2 ^ h + k) (mul binary64 (getD w (64 + k) nan) (squared h a))) 64 (64 + 2 ^ h + (k + 1))
 written-up a b w h k l s m f =
-    written-set (rawPower a) b w 64 (64 + 2 ^ h + k) (64 + 2 ^ h + k) _ f 64 (64 + 2 ^ h + (k + 1)) (filled-up a w h k l s m (f .held)) (omega arith) (omega arith)
-    (λ n p q. (omega arith, omega arith))
+    written-set (rawPower a) b w 64 (64 + 2 ^ h + k) (64 + 2 ^ h + k) _ f 64 (64 + 2 ^ h + (k + 1)) (filled-up a w h k l s m (f .held))
+    (omega arith) (omega arith) (λ n p q. (omega arith, omega arith))
 
 pub written-down : (a : Float) (b w : List Float) (hi k : ℕ) → k < 64 → 65 + k < hi → Written a b w (64 - k) hi
     → Written a b (set w (63 - k) (lostOr (getD w (65 + k) nan) (div binary64 one (getD w (65 + k) nan)))) (64 - (k + 1)) hi

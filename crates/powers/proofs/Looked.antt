@@ -7,7 +7,6 @@ use native.Mathlib.Omega.{arith}
 use lib.Dec.{T, leb, leb→le, ltb→lt}
 use lib.IntN.{ℤ, pos, negsuc, natAbs, _+ℤ_}
 use lib.Signed.{ltZ}
-use lib.ListN.{length}
 use lib.Ieee.{Float}
 use borrow.Author.Tests.{le-ltb, le-leb, lt-leb, ltb-true, ltb-false, leb-true}
 use Rattle.common.specs.Outcome.{finite, check, inside}
@@ -59,7 +58,8 @@ within-top : (k h : ℕ) → k ≤ h → 64 + k < 72 + (h - 7)
 within-top k h l = omega arith
 
 -- the power n as f has it
-looked : (f : ℤ → Float) (b w : List Float) (u d : ℕ) → WrittenBy f b w (64 - capped d) (72 + (highest u d - 7)) → (n : ℤ) → leb (natAbs n) 64 ≡ true → T (spans u d n) → lookedUp w n ≡ f n
+looked : (f : ℤ → Float) (b w : List Float) (u d : ℕ) → WrittenBy f b w (64 - capped d) (72 + (highest u d - 7)) →
+    (n : ℤ) → leb (natAbs n) 64 ≡ true → T (spans u d n) → lookedUp w n ≡ f n
 looked f b w u d p (pos k) s t =
     let l : k ≤ 64 = leb-true k 64 s in
     let m : k ≤ u = leb→le k u t in
@@ -83,11 +83,11 @@ holds a f b w u d p e n g t = by (leb (natAbs n) 64) refl
     by true s = e n g s ∙ ap check (sym (looked f b w u d p n s t))
     by false s = rw (g, s)
 
-pub powers-hold : (a : Float) (b w : List Float) (u d : ℕ) → length b ≡ 129 → Powers a b w u d → Holds a w u d
-powers-hold a b w u d l p =
-    holds a (ruled a) b w u d (p .stand l) (λ n f s. sym (raw-inside (powerRule a n) (lookedPower a n) (power-looked a n f s)))
+pub powers-hold : (a : Float) (b w : List Float) (u d : ℕ) → Powers a b w u d → Holds a w u d
+powers-hold a b w u d p =
+    holds a (ruled a) b w u d p (λ n f s. sym (raw-inside (powerRule a n) (lookedPower a n) (power-looked a n f s)))
 
 -- at a usual base no power needs a look
-pub bare-hold : (a : Float) (b w : List Float) (u d : ℕ) → usualBase a ≡ true → length b ≡ 129 → BarePowers a b w u d → Holds a w u d
-bare-hold a b w u d h l p =
-    holds a (rawPower a) b w u d (p .stand l) (λ n f s. ap inside (power-usual a n h s) ∙ inside-check (rawPower a n))
+pub bare-hold : (a : Float) (b w : List Float) (u d : ℕ) → usualBase a ≡ true → BarePowers a b w u d → Holds a w u d
+bare-hold a b w u d h p =
+    holds a (rawPower a) b w u d p (λ n f s. ap inside (power-usual a n h s) ∙ inside-check (rawPower a n))

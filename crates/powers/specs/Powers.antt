@@ -49,12 +49,12 @@ abbrev pub highest : ℕ → ℕ → ℕ
 highest up down = capped down + (capped up - capped down)
 
 -- the powers of a from -down to the highest, and to 7 in any case, are written to a table of 129: with no look at them
-pub record BarePowers (a : Float) (before w : List Float) (up down : ℕ) : Type 0 where
-  pub stand : length before ≡ 129 → Written a before w (64 - capped down) (72 + (highest up down - 7))
+abbrev pub BarePowers : Float → List Float → List Float → ℕ → ℕ → Type 0
+BarePowers a before w up down = Written a before w (64 - capped down) (72 + (highest up down - 7))
 
 -- and as the rule has them
-pub record Powers (a : Float) (before w : List Float) (up down : ℕ) : Type 0 where
-  pub stand : length before ≡ 129 → WrittenBy (ruled a) before w (64 - capped down) (72 + (highest up down - 7))
+abbrev pub Powers : Float → List Float → List Float → ℕ → ℕ → Type 0
+Powers a before w up down = WrittenBy (ruled a) before w (64 - capped down) (72 + (highest up down - 7))
 
 -- where the power n stands
 abbrev pub placeOf : ℤ → ℕ

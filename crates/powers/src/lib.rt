@@ -7,15 +7,17 @@ use sizes::usual;
 ghost use mathlib.Core.Path.{_≡_};
 ghost use mathlib.Core.List.{List};
 ghost use Prim.Native.Nat.{ℕ, _+_, _-_, _<_, _≤_, _^_};
-ghost use lib.ListN.{length};
+ghost use lib.ListN.{length, set};
 ghost use lib.Ieee.{Float};
+ghost use Rattle.rules.specs.Power.{one};
 ghost use Rattle.powers.specs.Powers.{Written, WrittenBy, BarePowers, Powers, ruled, capped, exponentAt, lookedUp};
 ghost use Rattle.powers.specs.Reach.{squared};
 
 // The first powers of a base make as many of the next, or fewer: w[k + half] = w[k] * sq, with sq the power at half.
 fn double(half: usize, count: usize, sq: f64, w: &mut [f64; 129])
     requires { ⌜ (count ≤ half) × (half + count ≤ 65) ⌝ }
-    ensures { λ _. ⌜ ((a : Float) (b : List Float) (h : ℕ) → h ≤ 31 → half ≡ 2 ^ h → sq ≡ squared h a → Written a b (now (w .entry)) 64 (64 + half) → Written a b (now (w .exit)) 64 (64 + half + count)) ⌝ }
+    ensures { λ _. ⌜ ((a : Float) (b : List Float) (h : ℕ) → h ≤ 31 → half ≡ 2 ^ h → sq ≡ squared h a →
+        Written a b (now (w .entry)) 64 (64 + half) → Written a b (now (w .exit)) 64 (64 + half + count)) ⌝ }
 {
     let mut k: usize = 0;
     while k < count {
@@ -24,12 +26,20 @@ fn double(half: usize, count: usize, sq: f64, w: &mut [f64; 129])
     }
 }
 
+// The power 0. That the table behind a reference has its 129 places is known where it is lent as a slice, as here and in `fill_by_rule`.
+fn put_one(w: &mut [f64])
+    requires { ⌜ 64 < length (now w) ⌝ }
+    ensures { λ _. ⌜ now (w .exit) ≡ set (now (w .entry)) 64 one ⌝ }
+{
+    w[64] = 1.0;
+}
+
 // The powers of a from 0 to `top`, or to 7.
 fn fill_up(a: f64, top: usize, w: &mut [f64; 129])
     requires { ⌜ top ≤ 64 ⌝ }
-    ensures { λ _. ⌜ (length (now (w .entry)) ≡ 129 → Written a (now (w .entry)) (now (w .exit)) 64 (72 + (top - 7))) ⌝ }
+    ensures { λ _. ⌜ Written a (now (w .entry)) (now (w .exit)) 64 (72 + (top - 7)) ⌝ }
 {
-    w[64] = 1.0;
+    put_one(w);
     double(1, 1, a, w);
     let a2 = a * a;
     double(2, 2, a2, w);
@@ -55,7 +65,8 @@ fn fill_up(a: f64, top: usize, w: &mut [f64; 129])
 // The powers from -1 to -low.
 fn fill_down(low: u32, w: &mut [f64; 129])
     requires { ⌜ low ≤ 64 ⌝ }
-    ensures { λ _. ⌜ ((a : Float) (b : List Float) (hi : ℕ) → 65 + low ≤ hi → Written a b (now (w .entry)) 64 hi → Written a b (now (w .exit)) (64 - low) hi) ⌝ }
+    ensures { λ _. ⌜ ((a : Float) (b : List Float) (hi : ℕ) → 65 + low ≤ hi →
+        Written a b (now (w .entry)) 64 hi → Written a b (now (w .exit)) (64 - low) hi) ⌝ }
 {
     let mut k: u32 = 0;
     while k < low {
@@ -99,9 +110,9 @@ fn exponent_at(k: usize) -> i32
 }
 
 // The powers of any base that stand from `lo` to below `hi`, one by one.
-fn fill_by_rule(a: f64, lo: usize, hi: usize, w: &mut [f64; 129])
-    requires { ⌜ (lo ≤ hi) × (hi ≤ 129) ⌝ }
-    ensures { λ _. ⌜ (length (now (w .entry)) ≡ 129 → WrittenBy (ruled a) (now (w .entry)) (now (w .exit)) lo hi) ⌝ }
+fn fill_by_rule(a: f64, lo: usize, hi: usize, w: &mut [f64])
+    requires { ⌜ (lo ≤ hi) × (hi ≤ 129) × (length (now w) ≡ 129) ⌝ }
+    ensures { λ _. ⌜ WrittenBy (ruled a) (now (w .entry)) (now (w .exit)) lo hi ⌝ }
 {
     let mut k = lo;
     while k < hi {

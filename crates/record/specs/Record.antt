@@ -1,4 +1,4 @@
--- The property record of docs/SCOPE.md: T, d, v, p, h, s, u, cv, cp, w, and where a volume comes from. Assumes nothing: these are definitions.
+-- To believe: the property record of docs/SCOPE.md: T, d, v, p, h, s, u, cv, cp, w, and where a volume comes from. Assumes nothing: these are definitions.
 use Prim.Native.Nat.{ℕ}
 use mathlib.Core.List.{List, [], _∷_}
 use lib.Ieee.{Float}

@@ -1,4 +1,4 @@
--- A p, T or d of the state, worked out by a call, is tested where it comes out: 4 outside its range, both ends counting as inside.
+-- To believe: a p, T or d of the state, worked out by a call, is tested where it comes out: 4 outside its range, both ends counting as inside.
 -- A call that finds v works out d = 1/v too. Assumes nothing: these are definitions.
 use Rattle.common.specs.Formula.{_⊘_}
 use mathlib.Core.Bool.{cond}

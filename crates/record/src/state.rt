@@ -4,6 +4,7 @@ use common::Answer;
 use common::D_FROM;
 use common::D_TO;
 use common::Kelvin;
+use common::M3PerKg;
 use common::MPa;
 use common::P_FROM;
 use common::P_TO;
@@ -44,23 +45,23 @@ pub fn settle_t(t: Kelvin) -> Answer
     settle_in(t.0, T_FROM, T_TO)
 }
 
-// The density in kg/m3 of a volume in m3/kg. What is in its range is finite, and so is the volume of it: nothing else need be looked at then.
-pub fn density(v: f64) -> Answer
-    ensures { λ r. ⌜ paper r ≡ densityOf (check v) ⌝ }
+// The density in kg/m3 of a volume. What is in its range is finite, and so is the volume of it: nothing else need be looked at then.
+pub fn density(v: M3PerKg) -> Answer
+    ensures { λ r. ⌜ paper r ≡ densityOf (check (v .0)) ⌝ }
 {
-    let d = 1.0 / v;
+    let d = 1.0 / v.0;
     if ranged(d, D_FROM, D_TO) {
         return Answer::Value(d);
     }
-    settle_in(over(1.0, v), D_FROM, D_TO)
+    settle_in(over(1.0, v.0), D_FROM, D_TO)
 }
 
-// A volume in m3/kg whose density is in its range.
-pub fn settle_v(v: f64) -> Answer
-    ensures { λ r. ⌜ paper r ≡ volumeOf (check v) ⌝ }
+// A volume whose density is in its range.
+pub fn settle_v(v: M3PerKg) -> Answer
+    ensures { λ r. ⌜ paper r ≡ volumeOf (check (v .0)) ⌝ }
 {
     match density(v) {
-        Answer::Value(_) => Answer::Value(v),
+        Answer::Value(_) => Answer::Value(v.0),
         Answer::Refused(k) => Answer::Refused(k),
     }
 }

@@ -46,7 +46,7 @@ pub density-is : (p t : Float) (r : Record) → pTRule p t ≡ value r → (dens
 unfolding pTRule rowRule
 density-is p t r e =
     went-on (foundRule p t) _ r _ e (λ s h k. (
-      ap (λ (o : Outcome State). lineIn o .density) h ∙ sym (record-d t (s .d) (s .v) Worked r k),
+      ap (λ (o : Outcome State). lineIn o .density .0) h ∙ sym (record-d t (s .d) (s .v) Worked r k),
       ap (λ (o : Outcome State). lineIn o .refusal) h,
     ))
 

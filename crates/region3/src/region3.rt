@@ -7,7 +7,6 @@ use common::Answer;
 use common::KJPerKg;
 use common::KJPerKgK;
 use common::Kelvin;
-use common::KgPerM3;
 use common::MPa;
 use common::Verdict;
 use common::check_ph;
@@ -29,7 +28,7 @@ fn record_of(given: Record, f: TvdAnswer, pressure: Pressure) -> RecordAnswer
     ensures { λ r. ⌜ paperRecord r ≡ report (recordOf (paperTvd f) pressure) ⌝ }
 {
     match f {
-        TvdAnswer::Value(t, v, d) => work_record(given, Kelvin(t), KgPerM3(d), v, pressure),
+        TvdAnswer::Value(t, v, d) => work_record(given, t, d, v, pressure),
         TvdAnswer::Refused(k) => refuse(given, k),
     }
 }
@@ -38,7 +37,7 @@ pub fn pT_reg3(given: Record, p: MPa, t: Kelvin) -> RecordAnswer
     ensures { λ r. ⌜ paperRecord r ≡ report (pTRule (p .0) (t .0)) ⌝ }
 {
     match found_pT(p, t) {
-        StateAnswer::Value(_, v, d) => work_record(given, t, KgPerM3(d), v, Pressure::Worked),
+        StateAnswer::Value(_, v, d) => work_record(given, t, d, v, Pressure::Worked),
         StateAnswer::Refused(k) => refuse(given, k),
     }
 }

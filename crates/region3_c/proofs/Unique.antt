@@ -139,3 +139,13 @@ pub write-one : OneBehind 1 own.r3_write.Kinds.ps own.r3_write.Kinds.r own.r3_wr
 write-one κs a d e x y p q =
     let same = p ∙ sym q in
     (ap (λ (z : ℕ × List ℕ). z .0) same, ap (λ (z : ℕ × List ℕ). z .1) same)
+
+-- ---- the version
+
+abbrev pub OneVersion : Out 0 own.r3_library_version.Kinds.ps own.r3_library_version.Kinds.r → Type 0
+OneVersion post =
+    (κs : Lfts 0) (a : Dens κs own.r3_library_version.Kinds.ps) (d e : AtExit (endedOf 0 own.r3_library_version.Kinds.ps own.r3_library_version.Kinds.r) κs)
+    (x y : resT own.r3_library_version.Kinds.r κs .Denot) → post κs a x d → post κs a y e → x ≡ y
+
+pub versions-one : OneVersion own.r3_library_version.Reads.Post × OneVersion own.r3_library_version_0_3_0.Reads.Post
+versions-one = (λ κs a d e x y p q. p ∙ sym q, λ κs a d e x y p q. p ∙ sym q)

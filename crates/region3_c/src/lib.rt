@@ -1,7 +1,7 @@
 // The library for callers in C and Rust. A call returns the refusal's number, 0 where it is accepted, and writes what it answers through a
 // pointer (specs/Exported.antt): of the caller's ten numbers each is replaced, or zeroed. The units and the numbers of the
-// refusals are in bindings/c/region3.h. In this order: the four rules, the saturation line, the border with region 2, a property, cp and w
-// together, the letter, the five records, what a search finds and the records there, the columns, the exchange record.
+// refusals are in bindings/c/region3.h. In this order: the version, the four rules, the saturation line, the border with region 2, a property, cp and
+// w together, the letter, the five records, what a search finds and the records there, the columns, the exchange record.
 mod exported;
 
 use common::KJPerKg;
@@ -36,6 +36,22 @@ ghost use Rattle.search.specs.Calls.{pv2T-reg3Rule, Th2d-reg3Rule, Ts2d-reg3Rul
 ghost use Rattle.column_run.specs.Columns.{lent, columnsRule};
 ghost use Rattle.exchange_entry.specs.Write.{writtenBy};
 ghost use Rattle.region3_c.specs.Exported.{Exported, ExportedLetter, ExportedRecord, ExportedFound, ExportedSearched, ExportedColumns, ExportedRead};
+ghost use Rattle.region3_c.specs.Version.{libraryVersion};
+
+#[no_mangle]
+pub extern "C" fn r3_library_version() -> u32
+    ensures { λ r. ⌜ r ≡ libraryVersion ⌝ }
+{
+    300
+}
+
+// The same under a name that has the version in it: a caller that names it cannot be linked with the archive of another version.
+#[no_mangle]
+pub extern "C" fn r3_library_version_0_3_0() -> u32
+    ensures { λ r. ⌜ r ≡ libraryVersion ⌝ }
+{
+    r3_library_version()
+}
 
 #[no_mangle]
 pub extern "C" fn r3_power(a: f64, n: i32, out: &mut f64) -> u8

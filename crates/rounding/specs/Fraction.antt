@@ -1,4 +1,4 @@
--- A number as a fraction of whole numbers, and the distance of two of them, multiplied out. Assumes nothing: these are definitions.
+-- To believe: a number as a fraction of whole numbers, and the distance of two of them, multiplied out. Assumes nothing: these are definitions.
 use Prim.Native.Nat.{ℕ, _+_, _*_, _/_, _^_, _≤_}
 use mathlib.Core.Bool.{Bool, true, false}
 use mathlib.Core.List.{List, [], _∷_}

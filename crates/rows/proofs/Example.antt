@@ -1,4 +1,4 @@
--- Document 01's example, whole: the bytes of three rows give the four lines. Worked out by antt from the definitions. Assumes nothing.
+-- docs/SCOPE.md's example, whole: the bytes of three rows give the four lines. Worked out by antt from the definitions. Assumes nothing.
 use mathlib.Core.Path.{_≡_, refl}
 use mathlib.Core.List.{List, [], _∷_}
 use Prim.Native.Nat.{ℕ}

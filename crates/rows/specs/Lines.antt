@@ -1,4 +1,4 @@
--- What `letters` reads and writes, byte by byte (docs/SCOPE.md). Assumes nothing: these are definitions.
+-- To believe: what `letters` reads and writes, byte by byte (docs/SCOPE.md). Assumes nothing: these are definitions.
 use Prim.Native.Nat.{ℕ, _+_, _*_, _-_, _/_, _%_, _^_, min}
 use Prim.Native.Char.{code}
 use mathlib.Core.List.{List, [], _∷_, _++_}

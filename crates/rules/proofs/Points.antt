@@ -8,7 +8,7 @@ use lib.IntN.{pos, negsuc}
 use lib.Ieee.{Float, nan, inf, fin, binary64, toBits, round, neg, add, sub, sum, mul, div, ofInt, le, lt, eq}
 use Rattle.common.specs.Outcome.{Outcome, value, refused, numberAndValue, zeroF}
 use Rattle.rules.specs.Power.{powerRule}
-use Rattle.rules.specs.Exp.{exponentialRule, L}
+use Rattle.rules.specs.Exp.{nextSum, exponentialRule, L}
 
 abbrev whole : ℕ → Float
 whole n = round binary64 false n 1
@@ -73,3 +73,15 @@ pub exponentials : map told (exponentialRule (decimal 52_35 2) ∷ exponentialRu
     ≡ (0, 0x44a70638867725ab) ∷ (0, 0x3ff8925038284128) ∷ (0, 0x3fe6a9bdbb102f32) ∷ []
 unfolding exponentialRule L toBits round neg add sub sum mul div ofInt le
 exponentials = refl
+
+-- (r*s)/j and not r*(s/j): of each j at which the two can differ, an s at which they do, with r = 0.347
+abbrev summed : ℕ → ℕ → Outcome Float
+summed s j = nextSum (value (decimal 0_347 3)) (value (decimal s 3)) j
+
+pub sums : map told (
+    summed 1_017 3 ∷ summed 1_006 5 ∷ summed 1_025 6 ∷ summed 1_017 7 ∷ summed 1_145 9 ∷ summed 1_167 10 ∷ summed 1_095 11 ∷ summed 1_351 12
+    ∷ summed 1_038 13 ∷ summed 1_016 14 ∷ [])
+    ≡ (0, 0x3ff1e1d323fee2ca) ∷ (0, 0x3ff11df7cd2b975e) ∷ (0, 0x3ff0f2ceb622adf2) ∷ (0, 0x3ff0ce7f0f6d3ca0) ∷ (0, 0x3ff0b4d28d777c20)
+    ∷ (0, 0x3ff0a5ddfaf27a06) ∷ (0, 0x3ff08d7c32bb1723) ∷ (0, 0x3ff0a0041b5f48ad) ∷ (0, 0x3ff0717c7def5b3c) ∷ (0, 0x3ff067258a594d5a) ∷ []
+unfolding toBits round add sum mul div ofInt
+sums = refl

@@ -47,14 +47,18 @@ twoTo k = fin false 1 k
 abbrev pub from14 : List ℕ
 from14 = 14 ∷ 13 ∷ 12 ∷ 11 ∷ 10 ∷ 9 ∷ 8 ∷ 7 ∷ 6 ∷ 5 ∷ 4 ∷ 3 ∷ 2 ∷ 1 ∷ []
 
--- k is nearest the rounded x/L; s starts at 1, and for j from 14 down to 1 becomes 1 + (r*s)/j. A step that is not finite is refused with 5
+-- what s becomes at j: 1 + (r*s)/j
+abbrev pub nextSum : Outcome Float → Outcome Float → ℕ → Outcome Float
+nextSum r s j = number 1 ⊕ r ⊗ s ⊘ number j
+
+-- k is nearest the rounded x/L; s starts at 1, and for j from 14 down to 1 becomes the next. A step that is not finite is refused with 5
 unfoldable pub expSteps : Float → Outcome Float
 unfolding nearestWhole
 expSteps x =
     then (value x ⊘ value L) (λ q.
     let k = nearestWhole q in
     let r = value x ⊖ value (ofInt binary64 k) ⊗ value L in
-    let s = foldl (λ s j. number 1 ⊕ r ⊗ s ⊘ number j) (number 1) from14 in
+    let s = foldl (nextSum r) (number 1) from14 in
     s ⊗ value (twoTo k))
 
 -- Refused: 1 for a NaN or an infinity, 2 for an x that is not from -700 to 700

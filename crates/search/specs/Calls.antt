@@ -37,13 +37,13 @@ TsBox t s = pairRule T-FROM T-TO t S-FROM S-TO s
 -- ---- T or d
 
 unfoldable pub pv2T-reg3Rule : Float → Float → Outcome Proposal
-pv2T-reg3Rule p v = then (pvBox p v) (λ _. foundOn (Isochore (densityBy v)) p)
+pv2T-reg3Rule p v = then (pvBox p v) (λ _. foundOn (Isochore (record { 0 = densityBy v }) (record { 0 = p })))
 
 unfoldable pub Th2d-reg3Rule : Float → Float → Outcome Proposal
-Th2d-reg3Rule t h = then (ThBox t h) (λ _. foundOn (Enthalpy t) h)
+Th2d-reg3Rule t h = then (ThBox t h) (λ _. foundOn (Enthalpy (record { 0 = t }) (record { 0 = h })))
 
 unfoldable pub Ts2d-reg3Rule : Float → Float → Outcome Proposal
-Ts2d-reg3Rule t s = then (TsBox t s) (λ _. foundOn (Entropy t) s)
+Ts2d-reg3Rule t s = then (TsBox t s) (λ _. foundOn (Entropy (record { 0 = t }) (record { 0 = s })))
 
 -- ---- the records: that of (T,d), with its own v and p, and the trials
 

@@ -68,11 +68,11 @@ pub fn check_Ts(t: Kelvin, s: KJPerKgK) -> Verdict
 }
 
 // What is found on a curve, where the box accepts.
-fn found_in(verdict: Verdict, curve: Curve, y: f64) -> FoundAnswer
-    ensures { λ r. ⌜ paperFound r ≡ then (paperVerdict verdict) (λ _. foundOn curve y) ⌝ }
+fn found_in(verdict: Verdict, curve: Curve) -> FoundAnswer
+    ensures { λ r. ⌜ paperFound r ≡ then (paperVerdict verdict) (λ _. foundOn curve) ⌝ }
 {
     match verdict {
-        Verdict::Accepted => found(curve, y),
+        Verdict::Accepted => found(curve),
         Verdict::Refused(k) => FoundAnswer::Refused(k),
     }
 }
@@ -81,21 +81,21 @@ fn found_in(verdict: Verdict, curve: Curve, y: f64) -> FoundAnswer
 pub fn pv2T_reg3(p: MPa, v: M3PerKg) -> FoundAnswer
     ensures { λ r. ⌜ paperFound r ≡ pv2T-reg3Rule (p .0) (v .0) ⌝ }
 {
-    found_in(check_pv(p, v), Curve::Isochore(1.0 / v.0), p.0)
+    found_in(check_pv(p, v), Curve::Isochore(KgPerM3(1.0 / v.0), p))
 }
 
 // The d at T and h.
 pub fn Th2d_reg3(t: Kelvin, h: KJPerKg) -> FoundAnswer
     ensures { λ r. ⌜ paperFound r ≡ Th2d-reg3Rule (t .0) (h .0) ⌝ }
 {
-    found_in(check_Th(t, h), Curve::Enthalpy(t.0), h.0)
+    found_in(check_Th(t, h), Curve::Enthalpy(t, h))
 }
 
 // The d at T and s.
 pub fn Ts2d_reg3(t: Kelvin, s: KJPerKgK) -> FoundAnswer
     ensures { λ r. ⌜ paperFound r ≡ Ts2d-reg3Rule (t .0) (s .0) ⌝ }
 {
-    found_in(check_Ts(t, s), Curve::Entropy(t.0), s.0)
+    found_in(check_Ts(t, s), Curve::Entropy(t, s))
 }
 
 // The trials that led to a record's state: none where it is refused.
@@ -121,8 +121,8 @@ fn counted(a: RecordAnswer, trials: u32) -> SearchedRecord
 }
 
 // The record at a T and a d that were found, and a v, with the trials.
-fn record_at(given: Record, t: Kelvin, d: KgPerM3, v: f64, trials: u32) -> SearchedRecord
-    ensures { λ r. ⌜ paperSearched r ≡ reportSearched (recordFound (recordSteps (t .0) (d .0) v Worked) trials) ⌝ }
+fn record_at(given: Record, t: Kelvin, d: KgPerM3, v: M3PerKg, trials: u32) -> SearchedRecord
+    ensures { λ r. ⌜ paperSearched r ≡ reportSearched (recordFound (recordSteps (t .0) (d .0) (v .0) Worked) trials) ⌝ }
 {
     counted(work_record(given, t, d, v, Pressure::Worked), trials)
 }
@@ -140,7 +140,7 @@ pub fn pv_reg3(given: Record, p: MPa, v: M3PerKg) -> SearchedRecord
     match pv2T_reg3(p, v) {
         FoundAnswer::Value(t, trials) => {
             let d = 1.0 / v.0;
-            record_at(given, Kelvin(t), KgPerM3(d), 1.0 / d, trials)
+            record_at(given, Kelvin(t), KgPerM3(d), M3PerKg(1.0 / d), trials)
         }
         FoundAnswer::Refused(k) => refused_record(given, k),
     }
@@ -151,7 +151,7 @@ fn on_isotherm(given: Record, t: Kelvin, place: FoundAnswer) -> SearchedRecord
     ensures { λ r. ⌜ paperSearched r ≡ reportSearched (then (paperFound place) (recordAlong (t .0))) ⌝ }
 {
     match place {
-        FoundAnswer::Value(d, trials) => record_at(given, t, KgPerM3(d), 1.0 / d, trials),
+        FoundAnswer::Value(d, trials) => record_at(given, t, KgPerM3(d), M3PerKg(1.0 / d), trials),
         FoundAnswer::Refused(k) => refused_record(given, k),
     }
 }

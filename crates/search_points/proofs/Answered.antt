@@ -17,15 +17,24 @@ use Rattle.search.specs.Calls.{densityBy, pvBox, ThBox, TsBox, pv2T-reg3Rule, T
 
 pub T-within : (p v : Float) (q : Proposal) → pv2T-reg3Rule p v ≡ value q → Within (statePressure (check (q .x)) (check (densityBy v))) p
 unfolding pv2T-reg3Rule
-T-within p v q e = went-on (pvBox p v) _ q _ e (λ _ _ k. found-accepted (Isochore (densityBy v)) p q _ k (λ u g. p-within (q .x) (densityBy v) p u (passed (Isochore (densityBy v)) p (q .x) u g)))
+T-within p v q e =
+    let curve = Isochore (record { 0 = densityBy v }) (record { 0 = p }) in
+    went-on (pvBox p v) _ q _ e (λ _ _ k.
+    found-accepted curve q _ k (λ u g. p-within (q .x) (densityBy v) p u (passed curve (q .x) u g)))
 
 pub d-within-h : (t h : Float) (q : Proposal) → Th2d-reg3Rule t h ≡ value q → Within (Td2h (check t) (check (q .x))) h
 unfolding Th2d-reg3Rule
-d-within-h t h q e = went-on (ThBox t h) _ q _ e (λ _ _ k. found-accepted (Enthalpy t) h q _ k (λ u g. h-within t (q .x) h u (passed (Enthalpy t) h (q .x) u g)))
+d-within-h t h q e =
+    let curve = Enthalpy (record { 0 = t }) (record { 0 = h }) in
+    went-on (ThBox t h) _ q _ e (λ _ _ k.
+    found-accepted curve q _ k (λ u g. h-within t (q .x) h u (passed curve (q .x) u g)))
 
 pub d-within-s : (t s : Float) (q : Proposal) → Ts2d-reg3Rule t s ≡ value q → Within (Td2s (check t) (check (q .x))) s
 unfolding Ts2d-reg3Rule
-d-within-s t s q e = went-on (TsBox t s) _ q _ e (λ _ _ k. found-accepted (Entropy t) s q _ k (λ u g. s-within t (q .x) s u (passed (Entropy t) s (q .x) u g)))
+d-within-s t s q e =
+    let curve = Entropy (record { 0 = t }) (record { 0 = s }) in
+    went-on (TsBox t s) _ q _ e (λ _ _ k.
+    found-accepted curve q _ k (λ u g. s-within t (q .x) s u (passed curve (q .x) u g)))
 
 -- ---- the records
 

@@ -40,9 +40,10 @@ abbrev isFound : Float → ℕ → Outcome Proposal → Bool
 isFound x n (value q) = eqb (q .trials) n && (le (q .x) x && le x (q .x))
 isFound x n (refused k) = false
 
-pub in-seven : T (isFound (decimal 235_3422999307922 13) 7 (Th2d-reg3Rule (whole 700) (whole 2500)))
+-- as much is missing at both start points, of which the one at 100 MPa is the newer: with the other 7 trials lead to 343.7993402271357
+pub in-eight : T (isFound (decimal 343_7993402271363 13) 8 (Th2d-reg3Rule (whole 690) (decimal 2245_2370307460014 13)))
 unfolding Th2d-reg3Rule missingAt openedBy startOf trialBy turnOf trialsFrom proposalFrom proposalRule heldTo checkPRule checkHRule checkSRule densityAt densitiesAt startsOf proposedFor acceptedAt foundOn B23-T2p B23-p2T pT2v-at volumeFrom originAt volumeAt volumeBy letterAt abRule cdefRule chijkRule clmnopjkRule nearRule cq-rkRule csrkRule cstRule ctRule limit walkRule rowAt table straight3ef p-saturation T-saturation table3a table3b table3c table3d table3e table3f table3g table3h table3i table3j table3k table3l table3m table3n table3o table3p table3q table3r table3s table3t table3u table3v table3w table3x table3y table3z Td2v Td2p Td2h Td2s Td2u Td2cv Td2cp Td2w statePressure slope phi phi-delta phi-deltadelta share joint-phi joint-delta four-delta four-deltadelta shareRule table30 sumRule total powerRule byBits lowest rootRule nearestRoot wholeRoot inUnits logarithmRule lnOf lnSteps exponentialRule expSteps nearestWhole L scaled decimal whole plus minus round neg add sub sum mul div ofInt le lt eq
-in-seven = tt
+in-eight = tt
 
 -- the start point at 100 MPa has that h
 pub at-once : T (noTrial (Th2d-reg3Rule (whole 700) (decimal 1924_8708156845616 13)))

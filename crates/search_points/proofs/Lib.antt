@@ -3,3 +3,4 @@ pub mod Answered
 pub mod TdRecord
 pub mod Pressure
 pub mod Isotherm
+pub mod Checked

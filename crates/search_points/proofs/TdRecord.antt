@@ -14,8 +14,9 @@ use Rattle.td_record.specs.Steps.{recordRule}
 use Rattle.td_record.specs.declared.Pressure.the-variants.{Worked}
 use Rattle.td_record.proofs.RecordSteps.{steps-after}
 use Rattle.secant.specs.declared.Curve.the-variants.{Isochore, Enthalpy, Entropy}
-use Rattle.checks.specs.Checks.{checkPRule, checkHRule, checkSRule}
+use Rattle.checks.specs.Checks.{askedBox, checkPRule, checkHRule, checkSRule}
 use Rattle.common.proofs.Calls.{went-on, no-value}
+use Rattle.checks.proofs.Promise.{in-box}
 use Rattle.search_points.proofs.Trials.{found-accepted, passed}
 use Rattle.search.specs.Calls.{densityBy, pvBox, ThBox, TsBox, pv2T-reg3Rule, Th2d-reg3Rule, Ts2d-reg3Rule, recordOn, recordFound, Searched, pvRule, ThRule, TsRule}
 use Rattle.search_points.proofs.Answered.{record-state}
@@ -51,23 +52,29 @@ module _ (a : Searched) where
   pub pv-record : (p v : Float) → pvRule p v ≡ value a → recordRule (a .state .T) (a .state .d) ≡ value (a .state)
   unfolding pvRule pv2T-reg3Rule checkPRule
   pv-record p v e =
+      let curve = Isochore (record { 0 = densityBy v }) (record { 0 = p }) in
       went-on (pv2T-reg3Rule p v) _ a _ e (λ q h k.
       went-on (pvBox p v) _ q _ h (λ _ _ f.
-      found-accepted (Isochore (densityBy v)) p q _ f (λ u g.
-      went-on (TdBox (q .x) (densityBy v)) _ u _ (passed (Isochore (densityBy v)) p (q .x) u g) (λ w box _. at-its-state (q .x) (densityBy v) (q .trials) w box k))))
+      found-accepted curve q _ f (λ u g.
+      went-on (askedBox (q .x) (densityBy v) p) _ u _ (passed curve (q .x) u g) (λ w box _.
+      at-its-state (q .x) (densityBy v) (q .trials) w (in-box (q .x) (densityBy v) p w box) k))))
 
   pub Th-record : (t h : Float) → ThRule t h ≡ value a → recordRule (a .state .T) (a .state .d) ≡ value (a .state)
   unfolding ThRule Th2d-reg3Rule checkHRule
   Th-record t h e =
+      let curve = Enthalpy (record { 0 = t }) (record { 0 = h }) in
       went-on (Th2d-reg3Rule t h) _ a _ e (λ q i k.
       went-on (ThBox t h) _ q _ i (λ _ _ f.
-      found-accepted (Enthalpy t) h q _ f (λ u g.
-      went-on (TdBox t (q .x)) _ u _ (passed (Enthalpy t) h (q .x) u g) (λ w box _. at-its-state t (q .x) (q .trials) w box k))))
+      found-accepted curve q _ f (λ u g.
+      went-on (askedBox t (q .x) h) _ u _ (passed curve (q .x) u g) (λ w box _.
+      at-its-state t (q .x) (q .trials) w (in-box t (q .x) h w box) k))))
 
   pub Ts-record : (t s : Float) → TsRule t s ≡ value a → recordRule (a .state .T) (a .state .d) ≡ value (a .state)
   unfolding TsRule Ts2d-reg3Rule checkSRule
   Ts-record t s e =
+      let curve = Entropy (record { 0 = t }) (record { 0 = s }) in
       went-on (Ts2d-reg3Rule t s) _ a _ e (λ q i k.
       went-on (TsBox t s) _ q _ i (λ _ _ f.
-      found-accepted (Entropy t) s q _ f (λ u g.
-      went-on (TdBox t (q .x)) _ u _ (passed (Entropy t) s (q .x) u g) (λ w box _. at-its-state t (q .x) (q .trials) w box k))))
+      found-accepted curve q _ f (λ u g.
+      went-on (askedBox t (q .x) s) _ u _ (passed curve (q .x) u g) (λ w box _.
+      at-its-state t (q .x) (q .trials) w (in-box t (q .x) s w box) k))))

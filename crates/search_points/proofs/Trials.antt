@@ -15,40 +15,40 @@ use Rattle.common.proofs.Calls.{went-on, no-value}
 use Rattle.place.specs.AcceptedPlace.{Starts, startsOf, proposedFor, inRange, checkOn, acceptedAt, foundOn}
 
 -- the place and the count of a search, by its start points and its list of trials
-pub record Trials (curve : Curve) (y : Float) (q : Proposal) : Type 0 where
+pub record Trials (curve : Curve) (q : Proposal) : Type 0 where
   pub ends : Starts
-  pub are-ends : startsOf curve y ≡ value ends
+  pub are-ends : startsOf curve ≡ value ends
   pub start : Secant
-  pub begun : startOf curve y (ends .first) (ends .second) ≡ value start
+  pub begun : startOf curve (ends .first) (ends .second) ≡ value start
   pub places : List Float
-  pub are : trialsFrom curve y MAX-ITER start ≡ value places
+  pub are : trialsFrom curve MAX-ITER start ≡ value places
   pub last : q .x ≡ lastOr (start .x) places
   pub count : q .trials ≡ length places
   pub most : length places ≤ MAX-ITER
 
-module _ (curve : Curve) (y : Float) where
-  after : (n : ℕ) (next : Next) (xs : List Float) → ((s : Secant) (ys : List Float) → trialsFrom curve y n s ≡ value ys → length ys ≤ n) → afterTurn next (trialsFrom curve y n) ≡ value xs → length xs ≤ suc n
+module _ (curve : Curve) where
+  after : (n : ℕ) (next : Next) (xs : List Float) → ((s : Secant) (ys : List Float) → trialsFrom curve n s ≡ value ys → length ys ≤ n) → afterTurn next (trialsFrom curve n) ≡ value xs → length xs ≤ suc n
   after n ended xs h e = let nil : xs ≡ [] = cc in rw nil (omega arith)
   after n (tried s) xs h e =
-      went-on (trialsFrom curve y n s) _ xs _ e (λ ys k g.
+      went-on (trialsFrom curve n s) _ xs _ e (λ ys k g.
       let l = h s ys k in
       let longer : xs ≡ s .x ∷ ys = cc in
       rw longer (omega arith))
 
-  bounded : (n : ℕ) (s : Secant) (xs : List Float) → trialsFrom curve y n s ≡ value xs → length xs ≤ n
+  bounded : (n : ℕ) (s : Secant) (xs : List Float) → trialsFrom curve n s ≡ value xs → length xs ≤ n
   unfolding trialsFrom
   bounded zero s xs e = let nil : xs ≡ [] = cc in rw nil (omega arith)
-  bounded (suc n) s xs e = went-on (turnOf curve y s) _ xs _ e (λ next _ k. after n next xs (bounded n) k)
+  bounded (suc n) s xs e = went-on (turnOf curve s) _ xs _ e (λ next _ k. after n next xs (bounded n) k)
 
   -- what was found was proposed by the search and accepted by the check
-  pub found-trials : (q : Proposal) → foundOn curve y ≡ value q → Trials curve y q
+  pub found-trials : (q : Proposal) → foundOn curve ≡ value q → Trials curve q
   unfolding foundOn proposedFor proposalRule proposalFrom
   found-trials q e =
-      went-on (proposedFor curve y) _ q _ e (λ q₁ h k.
-      went-on (acceptedAt curve y (q₁ .x)) _ q _ k (λ _ _ g.
-      went-on (startsOf curve y) _ q₁ _ h (λ ends a h₁.
-      went-on (startOf curve y (ends .first) (ends .second)) _ q₁ _ h₁ (λ start b h₂.
-      went-on (trialsFrom curve y MAX-ITER start) _ q₁ _ h₂ (λ xs c h₃.
+      went-on (proposedFor curve) _ q _ e (λ q₁ h k.
+      went-on (acceptedAt curve (q₁ .x)) _ q _ k (λ _ _ g.
+      went-on (startsOf curve) _ q₁ _ h (λ ends a h₁.
+      went-on (startOf curve (ends .first) (ends .second)) _ q₁ _ h₁ (λ start b h₂.
+      went-on (trialsFrom curve MAX-ITER start) _ q₁ _ h₂ (λ xs c h₃.
       let made : _≡_ {A = Proposal} q (record { x = lastOr (start .x) xs; trials = length xs }) = cc in
       record {
         ends = ends;
@@ -62,19 +62,19 @@ module _ (curve : Curve) (y : Float) where
         most = bounded MAX-ITER start xs c;
       })))))
 
-  pub found-accepted : (q : Proposal) (C : Type 0) → foundOn curve y ≡ value q → ((u : Unit) → acceptedAt curve y (q .x) ≡ value u → C) → C
+  pub found-accepted : (q : Proposal) (C : Type 0) → foundOn curve ≡ value q → ((u : Unit) → acceptedAt curve (q .x) ≡ value u → C) → C
   unfolding foundOn
   found-accepted q C e f =
-      went-on (proposedFor curve y) _ q _ e (λ q₁ h k.
-      went-on (acceptedAt curve y (q₁ .x)) _ q _ k (λ u g l.
+      went-on (proposedFor curve) _ q _ e (λ q₁ h k.
+      went-on (acceptedAt curve (q₁ .x)) _ q _ k (λ u g l.
       let same : q ≡ q₁ = cc in
       f u (rw same g)))
 
 -- what is accepted has passed the check
-pub passed : (curve : Curve) (y x : Float) (u : Unit) → acceptedAt curve y x ≡ value u → checkOn curve y x ≡ value u
+pub passed : (curve : Curve) (x : Float) (u : Unit) → acceptedAt curve x ≡ value u → checkOn curve x ≡ value u
 unfolding acceptedAt
-passed curve y x u e = by (inRange curve x) e
+passed curve x u e = by (inRange curve x) e
   where
-    by : (b : Bool) → cond b (checkOn curve y x) (refused 4) ≡ value u → checkOn curve y x ≡ value u
+    by : (b : Bool) → cond b (checkOn curve x) (refused 4) ≡ value u → checkOn curve x ≡ value u
     by true k = k
     by false k = absurd (no-value k)

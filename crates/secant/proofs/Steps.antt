@@ -27,8 +27,8 @@ step-is s e = raw-by e (raw-times (s .f) (raw-first (sub binary64) (s .xl) (s .x
 abbrev pub proposalWith : ℕ → Float → List Float → Outcome Proposal
 proposalWith k x xs = value (record { x = lastOr x xs; trials = k + length xs })
 
-unfoldable pub onward : Curve → Float → ℕ → ℕ → Secant → Outcome Proposal
-onward curve y n k s = then (trialsFrom curve y n s) (proposalWith k (s .x))
+unfoldable pub onward : Curve → ℕ → ℕ → Secant → Outcome Proposal
+onward curve n k s = then (trialsFrom curve n s) (proposalWith k (s .x))
 
 counted : (x : Float) (j k : ℕ) → j ≡ k → _≡_ {A = Outcome Proposal} (value (record { x = x; trials = j })) (value (record { x = x; trials = k }))
 counted x j k e = ap (λ (n : ℕ). value (record { x = x; trials = n })) e
@@ -37,28 +37,28 @@ none-before : (o : Outcome (List Float)) (x : Float) → then o (λ xs. value (r
 none-before (value xs) x = counted _ _ _ (omega arith)
 none-before (refused k) x = refl
 
-pub onward-first : (curve : Curve) (y : Float) (s : Secant) → proposalFrom curve y s ≡ onward curve y MAX-ITER 0 s
+pub onward-first : (curve : Curve) (s : Secant) → proposalFrom curve s ≡ onward curve MAX-ITER 0 s
 unfolding proposalFrom onward
-onward-first curve y s = none-before (trialsFrom curve y MAX-ITER s) (s .x)
+onward-first curve s = none-before (trialsFrom curve MAX-ITER s) (s .x)
 
 -- none is left
-pub onward-none : (curve : Curve) (y : Float) (k : ℕ) (s : Secant) → onward curve y 0 k s ≡ value (record { x = s .x; trials = k })
+pub onward-none : (curve : Curve) (k : ℕ) (s : Secant) → onward curve 0 k s ≡ value (record { x = s .x; trials = k })
 unfolding onward trialsFrom
-onward-none curve y k s = counted _ _ _ (omega arith)
+onward-none curve k s = counted _ _ _ (omega arith)
 
 longer : (o : Outcome (List Float)) (k : ℕ) (x z : Float) → then (then o (λ xs. value (z ∷ xs))) (proposalWith k x) ≡ then o (proposalWith (k + 1) z)
 longer (value xs) k x z = counted _ _ _ (omega arith)
 longer (refused n) k x z = refl
 
-module _ (curve : Curve) (y : Float) (n k : ℕ) (s : Secant) where
-  pub onward-ended : turnOf curve y s ≡ value ended → onward curve y (suc n) k s ≡ value (record { x = s .x; trials = k })
+module _ (curve : Curve) (n k : ℕ) (s : Secant) where
+  pub onward-ended : turnOf curve s ≡ value ended → onward curve (suc n) k s ≡ value (record { x = s .x; trials = k })
   unfolding onward trialsFrom
   onward-ended h = rw h (counted _ _ _ (omega arith))
 
-  pub onward-lost : turnOf curve y s ≡ refused 5 → onward curve y (suc n) k s ≡ refused 5
+  pub onward-lost : turnOf curve s ≡ refused 5 → onward curve (suc n) k s ≡ refused 5
   unfolding onward trialsFrom
   onward-lost h = rw h
 
-  pub onward-tried : (next : Secant) → turnOf curve y s ≡ value (tried next) → onward curve y (suc n) k s ≡ onward curve y n (k + 1) next
+  pub onward-tried : (next : Secant) → turnOf curve s ≡ value (tried next) → onward curve (suc n) k s ≡ onward curve n (k + 1) next
   unfolding onward trialsFrom
-  onward-tried next h = rw h (longer (trialsFrom curve y n next) k (s .x) (next .x))
+  onward-tried next h = rw h (longer (trialsFrom curve n next) k (s .x) (next .x))

@@ -32,13 +32,19 @@ CONVERGENCE-PRECISION = decimal 0_00000001 8
 
 -- the property along a curve, with no range test
 abbrev pub along : Curve → Float → Outcome Float
-along (Isochore d) x = Td2p (check x) (check d)
-along (Enthalpy t) x = Td2h (check t) (check x)
-along (Entropy t) x = Td2s (check t) (check x)
+along (Isochore d p) x = Td2p (check x) (check (d .0))
+along (Enthalpy t h) x = Td2h (check (t .0)) (check x)
+along (Entropy t s) x = Td2s (check (t .0)) (check x)
 
--- f: what is missing at x of the asked y
-unfoldable pub missingAt : Curve → Float → Float → Outcome Float
-missingAt curve y x = value y ⊖ along curve x
+-- and what is asked of it
+abbrev pub asked : Curve → Float
+asked (Isochore d p) = p .0
+asked (Enthalpy t h) = h .0
+asked (Entropy t s) = s .0
+
+-- f: what is missing at x of what is asked
+unfoldable pub missingAt : Curve → Float → Outcome Float
+missingAt curve x = value (asked curve) ⊖ along curve x
 
 -- ---- the start points
 
@@ -59,10 +65,10 @@ openedBy s =
 abbrev pub newerLast : Float → Float → Float → Float → Secant
 newerLast x1 f1 x2 f2 = cond (lt (sizeOf f1) (sizeOf f2)) (placed x2 f2 x1 f1 zeroF) (placed x1 f1 x2 f2 zeroF)
 
-unfoldable pub startOf : Curve → Float → Float → Float → Outcome Secant
+unfoldable pub startOf : Curve → Float → Float → Outcome Secant
 unfolding missingAt openedBy
-startOf curve y x1 x2 =
-    then (missingAt curve y x1) (λ f1. then (missingAt curve y x2) (λ f2. openedBy (newerLast x1 f1 x2 f2)))
+startOf curve x1 x2 =
+    then (missingAt curve x1) (λ f1. then (missingAt curve x2) (λ f2. openedBy (newerLast x1 f1 x2 f2)))
 
 -- ---- a trial
 
@@ -71,12 +77,12 @@ abbrev pub liftedTo : Float → Float
 liftedTo x = cond (le x zeroF) (decimal 0_000001 6) x
 
 -- the place x, to which the step dx led, with what is missing there
-abbrev pub arrivedAt : Curve → Float → Secant → Float → Float → Outcome Secant
-arrivedAt curve y s dx x = then (missingAt curve y x) (λ f. value (placed (s .x) (s .f) x f dx))
+abbrev pub arrivedAt : Curve → Secant → Float → Float → Outcome Secant
+arrivedAt curve s dx x = then (missingAt curve x) (λ f. value (placed (s .x) (s .f) x f dx))
 
-unfoldable pub trialBy : Curve → Float → Secant → Float → Outcome Secant
+unfoldable pub trialBy : Curve → Secant → Float → Outcome Secant
 unfolding missingAt
-trialBy curve y s e = then (stepBy s e) (λ dx. then (value (s .x) ⊕ value dx) (λ x. arrivedAt curve y s dx (liftedTo x)))
+trialBy curve s e = then (stepBy s e) (λ dx. then (value (s .x) ⊕ value dx) (λ x. arrivedAt curve s dx (liftedTo x)))
 
 -- the search ends, or goes on from another place
 pub data Next : Type 0 where
@@ -84,13 +90,13 @@ pub data Next : Type 0 where
   tried : Secant → Next
 
 -- |dx| > 1e-8 of the last step, f not 0, f - fl not 0: a trial
-unfoldable pub turnOf : Curve → Float → Secant → Outcome Next
+unfoldable pub turnOf : Curve → Secant → Outcome Next
 unfolding trialBy
-turnOf curve y s =
+turnOf curve s =
     cond (lt CONVERGENCE-PRECISION (sizeOf (s .dx)))
     (cond (eq (s .f) zeroF)
     (value ended)
-    (then (value (s .f) ⊖ value (s .fl)) (λ e. cond (eq e zeroF) (value ended) (then (trialBy curve y s e) (λ next. value (tried next))))))
+    (then (value (s .f) ⊖ value (s .fl)) (λ e. cond (eq e zeroF) (value ended) (then (trialBy curve s e) (λ next. value (tried next))))))
     (value ended)
 
 -- ---- the trials, in order: the places at which the property is worked after the start points
@@ -100,10 +106,10 @@ afterTurn ended f = value []
 afterTurn (tried s) f = then (f s) (λ xs. value (s .x ∷ xs))
 
 -- at most so many
-unfoldable pub trialsFrom : Curve → Float → ℕ → Secant → Outcome (List Float)
+unfoldable pub trialsFrom : Curve → ℕ → Secant → Outcome (List Float)
 unfolding turnOf
-trialsFrom curve y zero s = value []
-trialsFrom curve y (suc n) s = then (turnOf curve y s) (λ next. afterTurn next (trialsFrom curve y n))
+trialsFrom curve zero s = value []
+trialsFrom curve (suc n) s = then (turnOf curve s) (λ next. afterTurn next (trialsFrom curve n))
 
 -- the last of the places, or x where there is none
 abbrev pub lastOr : Float → List Float → Float
@@ -116,13 +122,13 @@ pub record Proposal : Type 0 where
   pub x : Float
   pub trials : ℕ
 
-unfoldable pub proposalFrom : Curve → Float → Secant → Outcome Proposal
+unfoldable pub proposalFrom : Curve → Secant → Outcome Proposal
 unfolding trialsFrom
-proposalFrom curve y s = then (trialsFrom curve y MAX-ITER s) (λ xs. value (record { x = lastOr (s .x) xs; trials = length xs }))
+proposalFrom curve s = then (trialsFrom curve MAX-ITER s) (λ xs. value (record { x = lastOr (s .x) xs; trials = length xs }))
 
-unfoldable pub proposalRule : Curve → Float → Float → Float → Outcome Proposal
+unfoldable pub proposalRule : Curve → Float → Float → Outcome Proposal
 unfolding startOf proposalFrom
-proposalRule curve y x1 x2 = then (startOf curve y x1 x2) (proposalFrom curve y)
+proposalRule curve x1 x2 = then (startOf curve x1 x2) (proposalFrom curve)
 
 -- ---- what the answers say
 

@@ -43,7 +43,7 @@ module _ {vi vj : Float} {ui di uj dj : ℕ} {rows : List Row} {z : Float} where
   bare-ends {b} e h s c =
       let i = first (usualBase vi) (usualBase vj) b e h in
       let j = second (usualBase vi) (usualBase vj) b e h in
-      slope-ends vi vj (s .wi) (s .wj) ui di uj dj (bare-hold vi _ _ ui di i refl (s .worked-i)) (bare-hold vj _ _ uj dj j refl (s .worked-j)) c (record { is = refl })
+      slope-ends vi vj (s .wi) (s .wj) ui di uj dj (bare-hold vi _ _ ui di i (s .worked-i)) (bare-hold vj _ _ uj dj j (s .worked-j)) c (record { is = refl })
       (s .is ∙ ap orNan (sym (open-gate vi vj (rawTotal (tabledTerm Zero Zero (s .wi) (s .wj)) zeroF rows) (usual-finite vi i) (usual-finite vj j))))
 
   -- and where vj is tested first
@@ -53,4 +53,5 @@ module _ {vi vj : Float} {ui di uj dj : ℕ} {rows : List Row} {z : Float} where
 
   pub rule-ends : SummedBy Powers (gate vi vj) vi ui di vj uj dj rows z → T (every (covers Zero Zero ui di uj dj) rows) → z ≡ orNan (sumRule term vi vj rows)
   rule-ends s c =
-      slope-ends vi vj (s .wi) (s .wj) ui di uj dj (powers-hold vi _ _ ui di refl (s .worked-i)) (powers-hold vj _ _ uj dj refl (s .worked-j)) c (record { is = refl }) (s .is)
+      slope-ends vi vj (s .wi) (s .wj) ui di uj dj (powers-hold vi _ _ ui di (s .worked-i)) (powers-hold vj _ _ uj dj (s .worked-j)) c
+      (record { is = refl }) (s .is)

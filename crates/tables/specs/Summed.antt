@@ -1,4 +1,4 @@
--- The rows that are summed for a letter. Assumes nothing: these are definitions.
+-- To believe: the rows that are summed for a letter. Assumes nothing: these are definitions.
 use mathlib.Core.List.{List}
 use lib.ListN.{take}
 use Rattle.algo.specs.Table.{Row}

@@ -3,6 +3,7 @@
 use common::Answer;
 use common::Kelvin;
 use common::KgPerM3;
+use common::M3PerKg;
 use common::MPa;
 use common::Refusal;
 use common::Verdict;
@@ -44,14 +45,14 @@ fn pressure_of(t: Kelvin, d: KgPerM3, pressure: Pressure) -> Answer
 }
 
 // The caller's record with every field worked, lost or not; cp and w are those that were asked for together, whatever they are.
-fn worked_fields(given: Record, t: Kelvin, d: KgPerM3, v: f64, p: f64, both: RawCpW) -> Record
-    ensures { λ r. ⌜ recordWith (t .0) (d .0) v p (check (both .cp)) (check (both .w)) ≡ complete r ⌝ }
+fn worked_fields(given: Record, t: Kelvin, d: KgPerM3, v: M3PerKg, p: MPa, both: RawCpW) -> Record
+    ensures { λ r. ⌜ recordWith (t .0) (d .0) (v .0) (p .0) (check (both .cp)) (check (both .w)) ≡ complete r ⌝ }
 {
     let mut worked = given;
     worked.T = t.0;
     worked.d = d.0;
-    worked.v = v;
-    worked.p = p;
+    worked.v = v.0;
+    worked.p = p.0;
     worked.h = raw_h(t, d);
     worked.s = raw_s(t, d);
     worked.u = raw_u(t, d);
@@ -79,12 +80,25 @@ fn accept_complete(r: Record) -> RecordAnswer
 }
 
 // The record of a state that is known by T, d and v: (p,T), (p,h) and (p,s) find v and have p worked, (h,s) finds p too.
-pub fn work_record(given: Record, t: Kelvin, d: KgPerM3, v: f64, pressure: Pressure) -> RecordAnswer
-    ensures { λ r. ⌜ paperRecord r ≡ report (recordSteps (t .0) (d .0) v pressure) ⌝ }
+pub fn work_record(
+    given: Record,
+    t: Kelvin,
+    d: KgPerM3,
+    v: M3PerKg,
+    pressure: Pressure,
+) -> RecordAnswer
+    ensures { λ r. ⌜ paperRecord r ≡ report (recordSteps (t .0) (d .0) (v .0) pressure) ⌝ }
 {
-    if is_finite(v) {
+    if is_finite(v.0) {
         return match pressure_of(t, d, pressure) {
-            Answer::Value(p) => accept_complete(worked_fields(given, t, d, v, p, raw_cp_w(t, d))),
+            Answer::Value(p) => accept_complete(worked_fields(
+                given,
+                t,
+                d,
+                v,
+                MPa(p),
+                raw_cp_w(t, d),
+            )),
             Answer::Refused(k) => refuse(given, k),
         };
     }
@@ -96,7 +110,7 @@ pub fn Td_reg3(given: Record, t: Kelvin, d: KgPerM3) -> RecordAnswer
     ensures { λ r. ⌜ paperRecord r ≡ report (recordRule (t .0) (d .0)) ⌝ }
 {
     match check_Td(t, d) {
-        Verdict::Accepted => work_record(given, t, d, raw_v(t, d), Pressure::Worked),
+        Verdict::Accepted => work_record(given, t, d, M3PerKg(raw_v(t, d)), Pressure::Worked),
         Verdict::Refused(k) => refuse(given, k),
     }
 }

@@ -8,7 +8,7 @@ use Rattle.volume.specs.declared.StateAnswer.the-variants as states
 use Rattle.volume.proofs as own
 
 stateAnswerOf : Outcome State → StateAnswer
-stateAnswerOf (value s) = states.Value (s .origin) (s .v) (s .d)
+stateAnswerOf (value s) = states.Value (s .origin) (record { 0 = s .v }) (record { 0 = s .d })
 stateAnswerOf (refused k) = states.Refused (kindOf k)
 
 state-back : (f : StateAnswer) → stateAnswerOf (paperState f) ≡ f

@@ -20,7 +20,7 @@ pub record State : Type 0 where
 
 -- the paper's number and values for each case
 abbrev pub paperState : StateAnswer → Outcome State
-paperState (states.Value o v d) = value (record { origin = o; v = v; d = d })
+paperState (states.Value o v d) = value (record { origin = o; v = v .0; d = d .0 })
 paperState (states.Refused k) = refused (numberOf k)
 
 -- v, then d = 1/v with its test

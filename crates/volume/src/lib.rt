@@ -1,4 +1,6 @@
 // The volume by its origin: the equation of each letter (S05rev), or the critical point's. A file has the name of the Rust's where the Rust has it.
+use common::KgPerM3;
+use common::M3PerKg;
 use common::Refusal;
 use record::Origin;
 
@@ -9,7 +11,7 @@ pub use by_origin::found_by;
 pub use by_origin::volume_from;
 
 // A volume equation with its reducing volume, pressure and temperature and its shifts: v*, p*, T*, a, b of table 4.
-pub enum Equation {
+enum Equation {
     // v / v* is the sum at p / p* - a and T / T* - b
     Plain(f64, f64, f64, f64, f64),
     // the sum at the root of the reduced pressure
@@ -26,6 +28,6 @@ pub enum Equation {
 
 // What (p,T) finds: the origin of the volume, the volume and the density.
 pub enum StateAnswer {
-    Value(Origin, f64, f64),
+    Value(Origin, M3PerKg, KgPerM3),
     Refused(Refusal),
 }

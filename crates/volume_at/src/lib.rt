@@ -62,7 +62,7 @@ fn volume_in(f: StateAnswer) -> Answer
     ensures { λ r. ⌜ paper r ≡ volumeIn (paperState f) ⌝ }
 {
     match f {
-        StateAnswer::Value(_, v, _) => Answer::Value(v),
+        StateAnswer::Value(_, v, _) => Answer::Value(v.0),
         StateAnswer::Refused(k) => Answer::Refused(k),
     }
 }
@@ -88,9 +88,10 @@ pub fn pT2v_3subreg(p: MPa, t: Kelvin, l: Letter) -> Answer
 }
 
 // The letter on the saturation line.
-fn saturated(x: Phase, p: f64) -> Letter
-    ensures { λ r. ⌜ r ≡ saturatedLetter x p ⌝ }
+fn saturated(x: Phase, p: MPa) -> Letter
+    ensures { λ r. ⌜ r ≡ saturatedLetter x (p .0) ⌝ }
 {
+    let p = p.0;
     match x {
         Phase::Liquid => {
             if p < 19.0088 {
@@ -124,7 +125,7 @@ pub fn pT2v_sat_reg3(p: MPa, t: Kelvin, x: Phase) -> Answer
     ensures { λ r. ⌜ paper r ≡ pT2v-sat-reg3Rule (p .0) (t .0) x ⌝ }
 {
     match check_pair(p.0, P_FROM, P_MAX4, t.0, T_FROM, T_MAX4) {
-        Verdict::Accepted => volume_in(found_by(Origin::Subregion(saturated(x, p.0)), p, t)),
+        Verdict::Accepted => volume_in(found_by(Origin::Subregion(saturated(x, p)), p, t)),
         Verdict::Refused(k) => Answer::Refused(k),
     }
 }

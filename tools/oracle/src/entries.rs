@@ -1,4 +1,4 @@
-//! Document 01's entry points over the checked form: ranges, order and refusals.
+//! docs/SCOPE.md's entry points over the checked form: ranges, order and refusals.
 //! Leaf functions are the Rust's own. What is put together from them follows docs/SCOPE.md.
 
 use crate::forms::checked::common::{DC_WATER, PC_WATER, P_TOL, TC_WATER, T_TOL};

@@ -3,12 +3,14 @@
 
 use oracle::make::Rows;
 use oracle::row::{Answer, Row, ROW};
-use oracle::{compare, direct, entries, exchange, lines, make, store};
+use oracle::{compare, direct, entries, exchange, lines, make, rules, store};
 use std::io::{self, BufWriter, Read, Write};
 use std::process::ExitCode;
 
 const HELP: &str = "\
-oracle answers                 rows of 24 bytes in, docs/SCOPE.md's answers of 88 bytes out
+oracle answers [--power-before-ask-6]
+                               rows of 24 bytes in, docs/SCOPE.md's answers of 88 bytes out; or those by the power
+                               of before Ask 6, which took numbers below the normal range
 oracle plain                   the same rows answered by the untouched crate, nothing refused
 oracle ruled                   the same, with docs/SCOPE.md's four rules in place of std's functions
 oracle lines                   rows of 16 bytes in, what the program `letters` must write out
@@ -41,7 +43,18 @@ fn run(words: &[String]) -> Result<bool, String> {
     let mode = words.first().map_or("help", String::as_str);
     let said = |e: io::Error| e.to_string();
     match mode {
-        "answers" => stream(entries::answer).map_err(said)?,
+        "answers" => {
+            match words[1..].iter().map(String::as_str).collect::<Vec<_>>()[..] {
+                [] => (),
+                ["--power-before-ask-6"] => rules::power_before_ask_6(),
+                _ => {
+                    return Err(format!(
+                        "answers takes --power-before-ask-6 or nothing\n{HELP}"
+                    ))
+                }
+            }
+            stream(entries::answer).map_err(said)?
+        }
         "plain" => stream(direct::plain::answer).map_err(said)?,
         "ruled" => stream(direct::ruled::answer).map_err(said)?,
         "lines" => {

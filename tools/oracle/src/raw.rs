@@ -1,4 +1,4 @@
-//! Document 01's rules as methods of f64, for the ruled form.
+//! docs/SCOPE.md's rules as methods of f64, for the ruled form.
 //! What a rule refuses is NaN here: a refused number travels as itself.
 
 use crate::rules;

@@ -1,7 +1,17 @@
-//! Document 01's written rules for the four functions, each as a public call with its refusals.
+//! docs/SCOPE.md's written rules for the four functions, each as a public call with its refusals.
 //! Every operation below is one f64 operation, in the order that docs/SCOPE.md writes down.
 
 use crate::ranges::{outside, EXPONENT, FIRST, NOT_FINITE, POWER, SECOND, STEP};
+use std::sync::atomic::{AtomicBool, Ordering::Relaxed};
+
+/// Whether the power is worked as before Ask 6 (docs/landings/ask-06.md), which looked at no digits
+/// lost below the normal range.
+static BEFORE_ASK_6: AtomicBool = AtomicBool::new(false);
+
+/// From here on the power of before Ask 6 stands in the place of the rule's.
+pub fn power_before_ask_6() {
+    BEFORE_ASK_6.store(true, Relaxed);
+}
 
 /// As docs/SCOPE.md writes it.
 #[allow(clippy::approx_constant)]
@@ -31,7 +41,14 @@ pub fn power(a: f64, n: i32) -> Result<f64, u8> {
     if n < POWER.0 || n > POWER.1 {
         return Err(SECOND);
     }
-    let whole = |r: f64| if a != 0.0 && r.abs() < f64::MIN_POSITIVE { Err(STEP) } else { step(r) };
+    let looks = a != 0.0 && !BEFORE_ASK_6.load(Relaxed);
+    let whole = |r: f64| {
+        if looks && r.abs() < f64::MIN_POSITIVE {
+            Err(STEP)
+        } else {
+            step(r)
+        }
+    };
     let (mut r, mut a, mut bits) = (1.0, a, n.unsigned_abs());
     while bits > 0 {
         if bits & 1 == 1 {
@@ -88,7 +105,7 @@ pub fn exponential(x: f64) -> Result<f64, u8> {
     Ok(s * two_to(k as i32))
 }
 
-/// The Rust's powf. Document 01 names one half and one quarter. The other exponents that occur are
+/// The Rust's powf. docs/SCOPE.md names one half and one quarter. The other exponents that occur are
 /// whole: 4 goes by the power rule, and 1 is the value itself and no step.
 pub fn powf(x: f64, exponent: f64) -> Result<f64, u8> {
     match exponent {

@@ -276,8 +276,33 @@ fn record_at_the_end_of_p() {
         "({p}, {T:?}): column d {d:?}, the record's p {found:?}, the record {:?}",
         pT_record(p, T)
     );
-    assert!(found > 100.0);
+    assert_eq!(format!("{found:.6}"), "100.000118");
     assert_eq!(pT_record(p, T), Err(4));
+    let refused = |p: f64| {
+        let even = (0..=4000).map(|i| 623.15 + (863.15 - 623.15) * f64::from(i) / 4000.0);
+        let states = even.filter(|&T| pT_record(p, T) == Err(4)).count();
+        println!("p = {p}: {states} of 4001 evenly spaced T are refused with 4");
+        states
+    };
+    assert_eq!([100.0, 99.999, 99.99].map(refused), [2053, 429, 0]);
+    assert_eq!(pT_record(100.0, 863.15), Err(8));
+}
+
+/// A power below the normal range, which the Rust goes on with: 5. At p = 23 the base is 0, which has
+/// lost nothing.
+#[test]
+fn powers_below_the_normal_range() {
+    let (p, T) = (22.999999999833125, 650.2253224955537);
+    println!(
+        "pT2v_reg3({p:?}, {T:?}): {:?}, untouched {:?}",
+        pT2v_reg3(p, T),
+        plain::r3::pT2v_reg3(p, T)
+    );
+    assert_eq!(plain::r3::pT2v_reg3(p, T), 0.002750714851315062);
+    assert_eq!(pT2v_reg3(p, T), Err(5));
+    assert_eq!(pT_record(p, T), Err(5));
+    assert_eq!(column_row(p, T), Err(5));
+    assert!(pT2v_reg3(23.0, T).is_ok());
 }
 
 #[test]
@@ -299,19 +324,22 @@ fn saturation_below_the_box() {
 /// come out in range the answer is accepted, whatever it is.
 #[test]
 fn beyond_region_3() {
-    let (p, T) = (18.048094757229695, 703.0542039013516);
+    let (p, T) = (18.048, 703.054);
     assert_eq!((pT_record(p, T), sub_region3_pT(p, T)), (Err(8), Err(8)));
     let record = Td_record(T, 1.0 / pT2v_reg3(p, T).unwrap()).unwrap();
     println!("(p,T) ({p:?}, {T:?}): d {} and p {}", record[1], record[3]);
-    assert!(near(record[3], 97.70, 1e-4));
-    let (p, h) = (17.129939389394558, 2882.1338944524323);
+    assert_eq!(format!("{:.2}", record[3]), "96.26");
+    let (p, h) = (17.13, 2882.13);
     let record = ph_record(p, h).unwrap();
     println!("(p,h) ({p:?}, {h:?}): p {} and h {}", record[3], record[4]);
-    assert!(near(record[3], 41.63, 1e-3) && near(record[4], 3305.8, 1e-4));
-    let (h, s) = (1562.0879392522527, 5.0091827388340455);
+    assert_eq!(
+        (format!("{:.2}", record[3]), format!("{:.1}", record[4])),
+        ("41.63".into(), "3305.8".into())
+    );
+    let (h, s) = (1562.09, 5.0092);
     let record = hs_record(h, s).unwrap();
     println!("(h,s) ({h:?}, {s:?}): h {} and s {}", record[4], record[5]);
-    assert!(near(record[5], 3.461, 1e-4));
+    assert_eq!(format!("{:.4}", record[5]), "3.4618");
 }
 
 /// OPC and OALFAP are one quantity, (dp/dT)/p at constant v, by two formulas.
@@ -325,6 +353,13 @@ fn one_quantity_twice() {
         count += 1;
     }
     println!("OPC and OALFAP: {largest:e} apart at most, {count} states");
+    let (T, d) = (833.8411375815019, 143.4983399588724);
+    let (a, b) = (property(T, d, OPC), property(T, d, OALFAP));
+    println!(
+        "({T:?}, {d:?}): {a:?} and {b:?}, {:e} apart",
+        ((a - b) / a).abs()
+    );
+    assert!(near(a, b, 1.1e-15) && !near(a, b, 1e-15));
     assert!(largest < 1e-9 && count > 10_000);
 }
 
@@ -360,7 +395,10 @@ fn where_5_comes_from() {
     for entry in [10, 21, 30] {
         for row in rows(entry, 100_000).filter(|row| answer(row).refusal == 5) {
             let near = row.first - 23.0;
-            assert!(near != 0.0 && near.abs() < 2.4e-10, "entry {entry}: {row:?}");
+            assert!(
+                near != 0.0 && near.abs() < 2.4e-10,
+                "entry {entry}: {row:?}"
+            );
         }
     }
     for entry in [7, 8, 11, 12, 13, 14, 15, 20, 22, 23, 25, 34] {

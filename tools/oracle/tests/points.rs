@@ -1,5 +1,5 @@
-//! Document 01's points to check and its order of refusals, on the oracle's entry points.
-//! Beside them the easy mistakes that docs/SCOPE.md names.
+//! Points to check and the order of refusals, on the oracle's entry points.
+//! Beside them mistakes that are easy to make.
 
 #![allow(non_snake_case)]
 

@@ -4,7 +4,16 @@ use borrow.Author.Needs.{needs}
 use Rattle.bands.proofs.band_clmnopjk as own
 
 returns : own.Tie.Need-returns
-returns c = let d = c .before .before in rw (← d .before .before .before .before .before .before .bare-tabled .ensures, ← d .before .before .before .before .before .straight .ensures, ← d .before .before .before .before .bare-tabled2 .ensures, ← d .before .before .before .bare-tabled3 .ensures, ← d .before .before .bare-tabled4 .ensures, ← d .before .bare-tabled5 .ensures, ← d .tabled .ensures) (if-one _ (c .answered .ensures) (c .before .by-clmnopjk .ensures))
+returns c =
+    let op = c .before .before in
+    let mn = op .before in
+    let jk = mn .before in
+    let ij = jk .before in
+    let gh = ij .before in
+    let ef = gh .before in
+    let cd = ef .before in
+    rw (← cd .bare-boundary .ensures, ← ef .raw-boundary .ensures, ← gh .bare-boundary2 .ensures, ← ij .bare-boundary3 .ensures)
+    (rw (← jk .bare-boundary4 .ensures, ← mn .bare-boundary5 .ensures, ← op .raw-boundary2 .ensures) (if-one _ (c .answered .ensures) (c .before .by-clmnopjk .ensures)))
 
 pub band-clmnopjk-spec : {M : Type 1} → own.Statement.statement M
 band-clmnopjk-spec =

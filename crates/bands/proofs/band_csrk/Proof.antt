@@ -4,7 +4,11 @@ use borrow.Author.Needs.{needs}
 use Rattle.bands.proofs.band_csrk as own
 
 returns : own.Tie.Need-returns
-returns c = let d = c .before .before in rw (← d .before .before .bare-tabled .ensures, ← d .before .bare-tabled2 .ensures, ← d .raw-T-saturation .ensures) (if-one _ (c .answered .ensures) (c .before .by-csrk .ensures))
+returns c =
+    let sat = c .before .before in
+    let jk = sat .before in
+    let cd = jk .before in
+    rw (← cd .bare-boundary .ensures, ← jk .bare-boundary2 .ensures, ← sat .raw-T-saturation .ensures) (if-one _ (c .answered .ensures) (c .before .by-csrk .ensures))
 
 pub band-csrk-spec : {M : Type 1} → own.Statement.statement M
 band-csrk-spec =

@@ -12,7 +12,7 @@ use Rattle.place.proofs.Laws.{T2p-settled}
 use Rattle.place.proofs.densities as own
 
 -- the border's p, from what was answered
-border : (c : own.Tie.After-settle) (a : Answer) → c .settle .result ≡ a → B23-T2p (c .before .before .args .t) ≡ paper a
+border : (c : own.Tie.After-settle) (a : Answer) → c .settle .result ≡ a → B23-T2p (c .before .before .args .t .0) ≡ paper a
 border c a e = sym (T2p-settled _) ∙ ap check (sym (c .before .raw-B23-T2p .ensures)) ∙ sym (c .settle .ensures) ∙ ap paper e
 
 returns : own.Tie.Need-returns

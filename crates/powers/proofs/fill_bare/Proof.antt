@@ -14,10 +14,8 @@ returns c =
     let a = j .before .before .before .args in
     let l = j .before .cap2 .ensures in
     let t = top j in
-    record {
-      stand = λ e.
-          rw l at (rw (t .is) at (c .fill-down .ensures (a .a) (a .w .now) (72 + (j .top-of .result - 7)) (omega (arith, l, t .low)) (c .before .before .fill-up .ensures e)));
-    }
+    let filled = c .before .before .fill-up .ensures in
+    rw l at (rw (t .is) at (c .fill-down .ensures (a .a) (a .w .now) (72 + (j .top-of .result - 7)) (omega (arith, l, t .low)) filled))
 
 pub fill-bare-spec : {M : Type 1} → own.Statement.statement M
 fill-bare-spec =

@@ -16,7 +16,7 @@ top c = top-is _ _ _ _ _ (c .before .before .cap2 .ensures) (c .before .before .
 fill-by-rule-requires : own.Tie.Need-fill-by-rule-requires
 fill-by-rule-requires c κs =
     let p = c .before in
-    (omega arith, omega (arith, top p .small, p .past-seven .ensures))
+    (omega arith, omega (arith, top p .small, p .past-seven .ensures), c .fill-by-rule-arg .given .0 .1)
 
 within : (up down : ℕ) → 72 + (highest up down - 7) ≤ 129
 within up down = omega arith
@@ -26,14 +26,14 @@ returns c =
     let s = c .before .before .before .before in
     let a = s .args in
     let u : usualBase (a .a) ≡ true = sym (c .before .before .before .usual .ensures) ∙ c .before .before .if1 .taken in
-    record { stand = λ e. usual-written (a .a) (a .w .now) _ (64 - capped (a .down)) (72 + (highest (a .up) (a .down) - 7)) (within (a .up) (a .down)) u (c .fill-bare .ensures .stand e) }
+    usual-written (a .a) (a .w .now) _ (64 - capped (a .down)) (72 + (highest (a .up) (a .down) - 7)) (within (a .up) (a .down)) u (c .fill-bare .ensures)
 
 returns-2 : own.Tie.Need-returns-2
 returns-2 c =
     let p = c .before .before in
     let low = p .before .before .before .cap .ensures in
     let end = p .past-seven .ensures ∙ ap (λ (t : ℕ). t - 7) (top p .is) in
-    record { stand = λ e. rw (low, end) at (c .fill-by-rule .ensures e) }
+    rw (low, end) at (c .fill-by-rule .ensures)
 
 pub fill-powers-spec : {M : Type 1} → own.Statement.statement M
 fill-powers-spec =

@@ -9,9 +9,9 @@ use Rattle.secant.proofs.rtsec as own
 
 -- the rule, from what the start points answered
 answered : (c : own.Tie.After-start) (w : SecantAnswer) → c .start .result ≡ w
-    → let a = c .before .args in then (paperSecant w) (proposalFrom (a .curve) (a .y)) ≡ proposalRule (a .curve) (a .y) (a .x1) (a .x2)
+    → let a = c .before .args in then (paperSecant w) (proposalFrom (a .curve)) ≡ proposalRule (a .curve) (a .x1) (a .x2)
 unfolding proposalRule
-answered c w e = let a = c .before .args in ap (λ (o : Outcome Secant). then o (proposalFrom (a .curve) (a .y))) (ap paperSecant (sym e) ∙ c .start .ensures)
+answered c w e = let a = c .before .args in ap (λ (o : Outcome Secant). then o (proposalFrom (a .curve))) (ap paperSecant (sym e) ∙ c .start .ensures)
 
 returns : own.Tie.Need-returns
 returns c = c .trials .ensures ∙ answered (c .before .before .before .before) _ (c .before .before .s .given .1)

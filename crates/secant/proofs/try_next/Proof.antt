@@ -29,7 +29,7 @@ returns-2 c =
 
 -- the rule, from what the trial answered
 answered : (c : own.Tie.After-trial) (w : SecantAnswer) → c .trial .result ≡ w
-    → let a = c .before .before .before .before .before .before .before .before .before .args in turnOf (a .curve) (a .y) (a .s) ≡ then (paperSecant w) (λ s. value (tried s))
+    → let a = c .before .before .before .before .before .before .before .before .before .args in turnOf (a .curve) (a .s) ≡ then (paperSecant w) (λ s. value (tried s))
 unfolding turnOf ofBits
 answered c w e =
     let k4 = c .before in

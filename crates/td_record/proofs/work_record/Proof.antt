@@ -12,10 +12,10 @@ use Rattle.td_record.proofs.work_record as own
 
 -- the steps, from the p that was answered
 answered : (m : own.Tie.After-pressure-of) (p : Answer) → m .pressure-of .result ≡ p → let a = m .before .before .before .args in
-    then (paper p) (recordAfter (a .t .0) (a .d .0) (a .v)) ≡ recordSteps (a .t .0) (a .d .0) (a .v) (a .pressure)
+    then (paper p) (recordAfter (a .t .0) (a .d .0) (a .v .0)) ≡ recordSteps (a .t .0) (a .d .0) (a .v .0) (a .pressure)
 unfolding recordSteps
 answered m p e =
-    let f = check-kept (m .before .before .before .args .v) (sym (m .before .before .is-finite .ensures) ∙ m .before .if1 .taken) in
+    let f = check-kept (m .before .before .before .args .v .0) (sym (m .before .before .is-finite .ensures) ∙ m .before .if1 .taken) in
     rw (f, sym (m .pressure-of .ensures) ∙ ap paper e)
 
 returns : own.Tie.Need-returns
@@ -30,7 +30,7 @@ returns-2 c = let s = c .before .before in c .refuse .ensures ∙ ap report (ans
 
 returns-3 : own.Tie.Need-returns-3
 unfolding recordSteps
-returns-3 c = rw (check-lost (c .before .before .before .args .v) (sym (c .before .before .is-finite .ensures) ∙ c .before .if1 .left)) (c .refuse2 .ensures)
+returns-3 c = rw (check-lost (c .before .before .before .args .v .0) (sym (c .before .before .is-finite .ensures) ∙ c .before .if1 .left)) (c .refuse2 .ensures)
 
 pub work-record-spec : {M : Type 1} → own.Statement.statement M
 work-record-spec =

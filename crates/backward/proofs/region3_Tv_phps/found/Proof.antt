@@ -18,14 +18,14 @@ returns c =
     let e = c .before .before .before in
     let m = e .before .before in
     let s = m .before .before in
-    rw (← (s .settle-t .ensures), m .t .given .1, after-T (m .t .given .0 .0) (s .before .args .v), ← (e .density .ensures), c .before .d .given .1)
+    rw (← (s .settle-t .ensures), m .t .given .1, after-T (m .t .given .0 .0) (s .before .args .v .0), ← (e .density .ensures), c .before .d .given .1)
 
 returns-2 : own.Tie.Need-returns-2
 returns-2 c =
     let e = c .before .before .before in
     let m = e .before .before in
     let s = m .before .before in
-    rw (← (s .settle-t .ensures), m .t .given .1, after-T (m .t .given .0 .0) (s .before .args .v), ← (e .density .ensures), c .before .k .given .1)
+    rw (← (s .settle-t .ensures), m .t .given .1, after-T (m .t .given .0 .0) (s .before .args .v .0), ← (e .density .ensures), c .before .k .given .1)
 
 pub found-spec : {M : Type 1} → own.Statement.statement M
 found-spec =

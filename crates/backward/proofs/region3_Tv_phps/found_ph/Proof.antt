@@ -7,7 +7,9 @@ returns : own.Tie.Need-returns
 unfolding tvd-ph
 returns c =
     let m = c .before .before .before .before in
-    rw (← (m .before .before .side-ph .ensures), m .side .given .1, ← (c .before .before .raw-on .ensures), ← (c .before .raw-on2 .ensures)) (c .found .ensures)
+    let T = c .before .before .raw-ph2T .ensures .raw .is in
+    let v = c .before .raw-ph2v .ensures .raw .is in
+    rw (← (m .before .before .side-ph .ensures), m .side .given .1, T, v) (c .found .ensures)
 
 returns-2 : own.Tie.Need-returns-2
 unfolding tvd-ph

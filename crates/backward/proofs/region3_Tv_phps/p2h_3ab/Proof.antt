@@ -10,7 +10,7 @@ use Rattle.backward.proofs.region3_Tv_phps.p2h_3ab as own
 returns : own.Tie.Need-returns
 unfolding h3ab ofBits neg plus minus whole scaled round
 returns c =
-    let π = raw-first (div binary64) (c .args .p) (whole 1) in
+    let π = raw-first (div binary64) (c .before .args .p .0) (whole 1) in
     let inner = raw-add (raw-value (orNan n3) refl) (raw-mul (raw-value (orNan n4) refl) π) in
     let η = raw-add (raw-value (orNan n1) refl) (raw-mul π (raw-add (raw-value (orNan n2) refl) (raw-mul π inner))) in
     sym (raw-times (whole 1) η .is)

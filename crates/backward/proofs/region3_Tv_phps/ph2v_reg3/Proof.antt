@@ -8,7 +8,8 @@ unfolding ph2v-reg3Rule
 returns c =
     let m = c .before .before .before in
     let s = m .before .before in
-    rw (← (s .before .before .before .check-ph .ensures), s .before .enum-told .given .1, ← (s .side-ph .ensures), m .side .given .1, ← (c .before .raw-on .ensures))
+    let worked = c .before .raw-ph2v .ensures .raw .is in
+    rw (← (s .before .before .before .check-ph .ensures), s .before .enum-told .given .1, ← (s .side-ph .ensures), m .side .given .1, worked)
     (c .settle-v .ensures)
 
 returns-2 : own.Tie.Need-returns-2

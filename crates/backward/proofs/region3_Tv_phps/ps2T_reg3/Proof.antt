@@ -7,7 +7,8 @@ returns : own.Tie.Need-returns
 unfolding ps2T-reg3Rule
 returns c =
     let s = c .before .before .before in
-    rw (← (s .before .before .check-ps .ensures), s .enum-told .given .1, ← (c .before .before .side-s .ensures), ← (c .before .raw-on .ensures)) (c .settle-t .ensures)
+    let worked = c .before .raw-ps2T .ensures .raw .is in
+    rw (← (s .before .before .check-ps .ensures), s .enum-told .given .1, ← (c .before .before .side-s .ensures), worked) (c .settle-t .ensures)
 
 returns-2 : own.Tie.Need-returns-2
 unfolding ps2T-reg3Rule

@@ -7,7 +7,8 @@ returns : own.Tie.Need-returns
 unfolding ps2v-reg3Rule
 returns c =
     let s = c .before .before .before in
-    rw (← (s .before .before .check-ps .ensures), s .enum-told .given .1, ← (c .before .before .side-s .ensures), ← (c .before .raw-on .ensures)) (c .settle-v .ensures)
+    let worked = c .before .raw-ps2v .ensures .raw .is in
+    rw (← (s .before .before .check-ps .ensures), s .enum-told .given .1, ← (c .before .before .side-s .ensures), worked) (c .settle-v .ensures)
 
 returns-2 : own.Tie.Need-returns-2
 unfolding ps2v-reg3Rule

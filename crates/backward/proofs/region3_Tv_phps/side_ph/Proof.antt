@@ -8,13 +8,13 @@ use Rattle.backward.proofs.region3_Tv_phps.side_ph as own
 returns : own.Tie.Need-returns
 unfolding side-ph
 returns c =
-    let l = c .before .before .before .p2h-3ab in
+    let l = c .before .before .before .before .p2h-3ab in
     rw (sym (l .ensures) ∙ check-kept (l .result) (cc), c .if2 .taken)
 
 returns-2 : own.Tie.Need-returns-2
 unfolding side-ph
 returns-2 c =
-    let l = c .before .before .before .p2h-3ab in
+    let l = c .before .before .before .before .p2h-3ab in
     rw (sym (l .ensures) ∙ check-kept (l .result) (cc), c .if2 .left)
 
 returns-3 : own.Tie.Need-returns-3

@@ -7,7 +7,8 @@ returns : own.Tie.Need-returns
 unfolding hs2p-reg3Rule
 returns c =
     let s = c .before .before .before in
-    rw (← (s .before .before .check-hs .ensures), s .enum-told .given .1, ← (c .before .before .side-s .ensures), ← (c .before .raw-on .ensures)) (c .settle-p .ensures)
+    let worked = c .before .raw-hs2p .ensures .raw .is in
+    rw (← (s .before .before .check-hs .ensures), s .enum-told .given .1, ← (c .before .before .side-s .ensures), worked) (c .settle-p .ensures)
 
 returns-2 : own.Tie.Need-returns-2
 unfolding hs2p-reg3Rule

@@ -1,17 +1,21 @@
 -- `boundaries::temperatures::T_atRegionBoundary` meets its contract: the range, then the sum. Assumes nothing.
-use mathlib.Core.Path.{sym, _∙_}
+use mathlib.Core.Path.{sym, ap, _∙_}
 use lib.Ieee.{ofBits, round}
+use Rattle.common.specs.Outcome.{check}
 use Rattle.common.specs.Decimal.{scaled, decimal, whole}
 use Rattle.common.proofs.Calls.{going-on, turned-away}
 use Rattle.boundaries.specs.Boundary.{boundaryRule}
+use Rattle.boundaries.proofs.TableSums.{boundary-check}
 use borrow.Author.Needs.{needs}
 use Rattle.boundaries.proofs.temperatures.T_atRegionBoundary as own
 
 returns : own.Tie.Need-returns
 unfolding boundaryRule scaled decimal whole round ofBits
 returns c =
+    let a = c .before .before .before .before .before .args in
     c .settle .ensures
-    ∙ c .before .raw-boundary .ensures
+    ∙ ap check (c .before .raw-boundary .ensures)
+    ∙ boundary-check (a .b) (a .p .0)
     ∙ sym (going-on (c .before .before .before .before .check-only .ensures) _ (c .before .before .enum-told .given .1))
 
 returns-2 : own.Tie.Need-returns-2

@@ -9,15 +9,19 @@ returns : own.Tie.Need-returns
 unfolding decimal scaled round ofBits
 returns c =
     let i = c .before .before in
-    let d = i .before in
-    rw (← d .before .before .bare-tabled .ensures, ← d .before .tabled .ensures, ← d .straight .ensures, i .if1 .taken) (if-one _ (c .answered .ensures) (c .before .by-uvwx .ensures))
+    let ef = i .before .before in
+    let wx = ef .before in
+    let uv = wx .before in
+    rw (← uv .bare-boundary .ensures, ← wx .raw-boundary .ensures, ← ef .raw-boundary2 .ensures, i .if1 .taken) (if-one _ (c .answered .ensures) (c .before .by-uvwx .ensures))
 
 returns-2 : own.Tie.Need-returns-2
 unfolding decimal scaled round ofBits
 returns-2 c =
     let i = c .before in
-    let d = i .before in
-    rw (← d .before .before .bare-tabled .ensures, ← d .before .tabled .ensures, ← d .straight .ensures, i .if1 .left) (c .up-to-22-11 .ensures)
+    let ef = i .before .before in
+    let wx = ef .before in
+    let uv = wx .before in
+    rw (← uv .bare-boundary .ensures, ← wx .raw-boundary .ensures, ← ef .raw-boundary2 .ensures, i .if1 .left) (c .up-to-22-11 .ensures)
 
 pub band-near-spec : {M : Type 1} → own.Statement.statement M
 band-near-spec =

@@ -48,7 +48,7 @@ loop-again c =
     let e : c .line-of .result ≡ rowRule p t = c .line-of .ensures ∙ rw (m, k) (row-is (originRule p t) p t refl) in (
       omega arith,
       filled-more letterIn 0 _ _ _ _ _ h (v .1) (ap (λ (r : Line). r .letter) e),
-      filled-more densityIn nan _ _ _ _ _ h (v .2) (ap (λ (r : Line). r .density) e),
+      filled-more densityIn nan _ _ _ _ _ h (v .2) (ap (λ (r : Line). r .density .0) e),
       filled-more refusalIn 0 _ _ _ _ _ h (v .3) (ap (λ (r : Line). r .refusal) e),
       left-less markIn 0 _ _ _ _ _ (v .4),
       left-less stopIn 0 _ _ _ _ _ (v .5),

@@ -1,5 +1,4 @@
 -- `column_sums::raw_sum` meets its contract: the powers that are worked cover the rows.
-use mathlib.Core.Path.{refl}
 use denote.Ref.{now}
 use borrow.Author.Needs.{needs}
 use Rattle.powers.proofs.Looked.{powers-hold}
@@ -17,7 +16,8 @@ returns c =
     let is = now (a .is) in
     let js = now (a .js) in
     slope-ends (a .vi) (a .vj) _ _ (ups (a .a) is) (downs (a .a) is) (ups (a .b) js) (downs (a .b) js)
-    (powers-hold (a .vi) _ _ (ups (a .a) is) (downs (a .a) is) refl (v .powers-for .ensures)) (powers-hold (a .vj) _ _ (ups (a .b) js) (downs (a .b) js) refl (t .powers-for2 .ensures))
+    (powers-hold (a .vi) _ _ (ups (a .a) is) (downs (a .a) is) (v .powers-for .ensures))
+    (powers-hold (a .vj) _ _ (ups (a .b) js) (downs (a .b) js) (t .powers-for2 .ensures))
     (covered (a .a) (a .b) is js (now (a .ns))) (x .slope-sum .ensures) (c .gated .ensures)
 
 pub raw-sum-spec : {M : Type 1} → own.Statement.statement M

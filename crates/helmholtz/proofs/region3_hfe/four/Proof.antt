@@ -1,5 +1,4 @@
 -- `helmholtz::region3_hfe::four` meets its contract: its columns are table 30. Assumes nothing.
-use mathlib.Core.Path.{refl}
 use lib.Ieee.{ofBits}
 use borrow.Author.Needs.{needs}
 use Rattle.common.specs.Decimal.{scaled, plus, minus}
@@ -15,13 +14,15 @@ returns c =
     let f = c .before .before .before in
     let x = f .before in
     let w = x .before .before .before .before .before .before in
-    let p = w .before .before .fill-powers .ensures in
+    let v = w .before .before in
+    let a = v .before .before .args in
+    let p = v .fill-powers .ensures in
     let q = w .fill-powers2 .ensures in
     let h = x .four-sums .ensures in (
-      share-of refl refl p q I (h .0) (f .finished .ensures),
-      share-of refl refl p q Ii (h .1) (c .before .before .finished2 .ensures),
-      share-of refl refl p q Ij (h .2) (c .before .finished3 .ensures),
-      share-of refl refl p q Jj (h .3) (c .finished4 .ensures),
+      share-of (a .delta) (a .tau) p q I (h .0) (f .finished .ensures),
+      share-of (a .delta) (a .tau) p q Ii (h .1) (c .before .before .finished2 .ensures),
+      share-of (a .delta) (a .tau) p q Ij (h .2) (c .before .finished3 .ensures),
+      share-of (a .delta) (a .tau) p q Jj (h .3) (c .finished4 .ensures),
     )
 
 pub four-spec : {M : Type 1} → own.Statement.statement M

@@ -1,5 +1,4 @@
 -- `helmholtz::region3_hfe::pair` meets its contract: its columns are table 30. Assumes nothing.
-use mathlib.Core.Path.{refl}
 use lib.Ieee.{ofBits}
 use borrow.Author.Needs.{needs}
 use Rattle.common.specs.Decimal.{scaled, plus, minus}
@@ -18,7 +17,7 @@ returns c =
     let p = v .fill-powers .ensures in
     let q = w .fill-powers2 .ensures in
     let h = x .joint-sums .ensures in
-    (share-of refl refl p q (a .s) (h .0) (c .before .finished .ensures), share-of refl refl p q (a .t) (h .1) (c .finished2 .ensures))
+    (share-of (a .delta) (a .tau) p q (a .s) (h .0) (c .before .finished .ensures), share-of (a .delta) (a .tau) p q (a .t) (h .1) (c .finished2 .ensures))
 
 pub pair-spec : {M : Type 1} → own.Statement.statement M
 pair-spec =

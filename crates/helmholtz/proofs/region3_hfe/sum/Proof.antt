@@ -1,5 +1,4 @@
 -- `helmholtz::region3_hfe::sum` meets its contract: its columns are table 30. Assumes nothing.
-use mathlib.Core.Path.{refl}
 use lib.Ieee.{ofBits}
 use borrow.Author.Needs.{needs}
 use Rattle.common.specs.Decimal.{scaled, plus, minus}
@@ -15,7 +14,7 @@ returns c =
     let w = x .before .before .before .before .before .before in
     let v = w .before .before in
     let a = v .before .before .args in
-    slope-of refl refl (v .fill-powers .ensures) (w .fill-powers2 .ensures) (a .a) (a .b) (x .slope-sum .ensures) (c .gated .ensures)
+    slope-of (a .delta) (a .tau) (v .fill-powers .ensures) (w .fill-powers2 .ensures) (a .a) (a .b) (x .slope-sum .ensures) (c .gated .ensures)
 
 pub sum-spec : {M : Type 1} → own.Statement.statement M
 sum-spec =

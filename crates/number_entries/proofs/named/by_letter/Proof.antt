@@ -26,7 +26,7 @@ returns-2 c =
     let k = c .before .before .before .before .before .place in
     let e : k .result ≡ placeOf (s .args .n) = rw (toZ-ofZ w32 (s .args .n) (s .fits .n)) at (k .ensures) in
     rw (sym e, le-ltb (k .result) 97 (c .before .before .before .before .if1 .left), lt-ltb (k .result) 123 (c .before .before .before .if2 .taken))
-    (c .number-reply .ensures ∙ ap numberReply (c .before .pT2v-3subreg .ensures ∙ ap (λ (l : Letter). pT2v-3subregRule (s .args .p) (s .args .t) l) (c .before .before .of-byte .ensures)))
+    (c .number-reply .ensures ∙ ap numberReply (c .before .pT2v-3subreg .ensures ∙ ap (λ (l : Letter). pT2v-3subregRule (s .args .p .0) (s .args .t .0) l) (c .before .before .of-byte .ensures)))
 
 returns-3 : own.Tie.Need-returns-3
 unfolding letterVolumeReply

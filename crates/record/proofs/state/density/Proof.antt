@@ -25,12 +25,12 @@ in-range (fin s m x) e = rw (check-kept (div binary64 (whole 1) (fin s m x)) (fi
 
 returns : own.Tie.Need-returns
 unfolding ofBits decimal whole scaled round
-returns c = in-range (c .before .before .args .v) (sym (c .before .ranged .ensures) ∙ c .if1 .taken)
+returns c = in-range (c .before .before .before .args .v .0) (sym (c .before .ranged .ensures) ∙ c .if1 .taken)
 
 returns-2 : own.Tie.Need-returns-2
 unfolding ofBits decimal whole scaled
 returns-2 c =
-    let v = c .before .before .before .before .args .v in
+    let v = c .before .before .before .before .before .args .v .0 in
     let d = raw-over (raw-value (whole 1) refl) (raw-check v) in
     c .settle-in .ensures ∙ ap (λ (o : Outcome Float). then o (tested D-FROM D-TO)) (ap check (c .before .over .ensures) ∙ sym (d .is))
 

@@ -10,9 +10,9 @@ use Rattle.record.proofs.Laws.{through}
 use Rattle.record.proofs.state.settle_v as own
 
 -- the rule, from what the density answered
-answered : (c : own.Tie.After-density) (a : Answer) → c .density .result ≡ a → volumeOf (check (c .before .args .v)) ≡ then (paper a) (λ _. value (c .before .args .v))
+answered : (c : own.Tie.After-density) (a : Answer) → c .density .result ≡ a → let v = c .before .args .v .0 in volumeOf (check v) ≡ then (paper a) (λ _. value v)
 answered c a e =
-    let v = c .before .args .v in
+    let v = c .before .args .v .0 in
     through v (λ w _. value w) ∙ ap (λ (o : Outcome Float). then o (λ _. value v)) (sym (c .density .ensures) ∙ ap paper e)
 
 returns : own.Tie.Need-returns

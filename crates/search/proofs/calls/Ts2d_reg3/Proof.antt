@@ -9,7 +9,9 @@ use Rattle.search.proofs.calls.Ts2d_reg3 as own
 
 returns : own.Tie.Need-returns
 unfolding Ts2d-reg3Rule
-returns c = let a = c .before .before .args in c .found-in .ensures ∙ ap (λ (o : Outcome Unit). then o (λ _. foundOn (Entropy (a .t .0)) (a .s .0))) (c .before .check-Ts .ensures)
+returns c =
+    let a = c .before .before .args in
+    c .found-in .ensures ∙ ap (λ (o : Outcome Unit). then o (λ _. foundOn (Entropy (a .t) (a .s)))) (c .before .check-Ts .ensures)
 
 pub Ts2d-reg3-spec : {M : Type 1} → own.Statement.statement M
 Ts2d-reg3-spec = own.Tie.close (own.Tie.spec (λ c κs. search needs) (λ c κs. search needs) returns)

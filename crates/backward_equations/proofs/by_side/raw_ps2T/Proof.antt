@@ -1,0 +1,9 @@
+-- `backward_equations::raw_ps2T`: the equations of the two sides.
+use borrow.Author.Needs.{needs}
+use Rattle.backward_equations.proofs.by_side.raw_ps2T as own
+
+returns : own.Tie.Need-returns
+returns c = c .raw-on .ensures
+
+pub raw-ps2T-spec : {M : Type 1} → own.Statement.statement M
+raw-ps2T-spec = own.Tie.close (own.Tie.spec (λ c κs. search needs) returns)

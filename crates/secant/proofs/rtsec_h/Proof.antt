@@ -1,0 +1,9 @@
+-- `secant::rtsec_h` meets its contract: the search on its curve. Assumes nothing.
+use borrow.Author.Needs.{needs}
+use Rattle.secant.proofs.rtsec_h as own
+
+returns : own.Tie.Need-returns
+returns c = c .rtsec .ensures
+
+pub rtsec-h-spec : {M : Type 1} → own.Statement.statement M
+rtsec-h-spec = own.Tie.close (own.Tie.spec (λ c κs. search needs) returns)
