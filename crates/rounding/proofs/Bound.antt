@@ -168,7 +168,7 @@ near-arith p n x z e A B S c u N D O h k g l =
     let r = units-arith p n x z e A B S c u h k g in
     (to-tolerance (x * S + B * c) (A * c + z * S) (c * S) e u N D O (r .0) l, to-tolerance (A * c + z * S) (x * S + B * c) (c * S) e u N D O (r .1) l)
 
-held-near : {f : Format} {x : Float} {y : Fraction} {M e : ℕ} (N D : ℕ) → Held f x y M e → e * D ≤ N * 2 ^ low f → Near x y N D
+pub held-near : {f : Format} {x : Float} {y : Fraction} {M e : ℕ} (N D : ℕ) → Held f x y M e → e * D ≤ N * 2 ^ low f → Near x y N D
 held-near {f} {x} {y} {M} {e} N D h l = go x (h .sign) (h .size) (h .value) (h .near)
   where
     U : ℕ
