@@ -49,10 +49,10 @@ test-le a b l = go (ltb a b) (nltb→le a b)
         equal : (a b : ℕ) → a ≤ b → b ≤ a → a ≡ b
         equal a b p q = omega arith
 
-abbrev LeExact : Bool → Bool → Type 0
+abbrev pub LeExact : Bool → Bool → Type 0
 LeExact s t = (m : ℕ) (e : ℤ) (n : ℕ) (d : ℤ) → le (fin s m e) (fin t n d) ≡ atMost (signed s (m * up e) (down e)) (signed t (n * up d) (down d))
 
-le-exact : (s t : Bool) → LeExact s t
+pub le-exact : (s t : Bool) → LeExact s t
 unfolding le
 le-exact false false m e n d =
     let a = m * up e * down d in
@@ -126,7 +126,7 @@ clear-arith L R L' R' W n d n' d' P h k l = lt-of-mul-lt-mul-right (d * d') (go 
     go : (L * d' + n' * W) * d ≤ R * d' * d → R' * d * d' ≤ (L' * d + n * W) * d' → n * d' * W < n' * d * W → (L + R') * (d * d') < (R + L') * (d * d')
     go x y z = omega arith
 
-below-clear : (a b c A B S α β γ n d n' d' : ℕ) → 0 < c → 0 < S → 0 < γ → (a * S + B * c) * d' + n' * (c * S) ≤ (A * c + b * S) * d' → (A * γ + β * S) * d ≤ (α * S + B * γ) * d + n * (γ * S) → n * d' < n' * d
+pub below-clear : (a b c A B S α β γ n d n' d' : ℕ) → 0 < c → 0 < S → 0 < γ → (a * S + B * c) * d' + n' * (c * S) ≤ (A * c + b * S) * d' → (A * γ + β * S) * d ≤ (α * S + B * γ) * d + n * (γ * S) → n * d' < n' * d
     → a * γ + β * c < α * c + b * γ
 below-clear a b c A B S α β γ n d n' d' C O G h k l =
     lt-of-mul-lt-mul-right S
@@ -141,7 +141,7 @@ below-clear a b c A B S α β γ n d n' d' C O G h k l =
     shape : (a * S + B * c) * γ + (A * γ + β * S) * c < (A * c + b * S) * γ + (α * S + B * γ) * c → (a * γ + β * c) * S < (α * c + b * γ) * S
     shape g = omega arith
 
-above-clear : (a b c A B S α β γ n d n' d' : ℕ) → 0 < c → 0 < S → 0 < γ → (A * c + b * S) * d' + n' * (S * c) ≤ (a * S + B * c) * d' → (α * S + B * γ) * d ≤ (A * γ + β * S) * d + n * (γ * S) → n * d' < n' * d
+pub above-clear : (a b c A B S α β γ n d n' d' : ℕ) → 0 < c → 0 < S → 0 < γ → (A * c + b * S) * d' + n' * (S * c) ≤ (a * S + B * c) * d' → (α * S + B * γ) * d ≤ (A * γ + β * S) * d + n * (γ * S) → n * d' < n' * d
     → α * c + b * γ < a * γ + β * c
 above-clear a b c A B S α β γ n d n' d' C O G h k l = last (below-clear b a c B A S β α γ n d n' d' C O G (first h) (second k) l)
   where

@@ -12,6 +12,7 @@ use lib.Ieee.{Float, Format, low, add, mul}
 use lib.Ieee.Exact.{HasValue}
 use lib.Ieee.Scale.{overflow}
 use Rattle.rounding.specs.Fraction.{Fraction}
+use Rattle.rounding.specs.Arithmetic.{plus, times}
 use Rattle.rounding.proofs.Round.{slack}
 use Rattle.rounding.proofs.Ops.{pl, mi, Close, add-near, mul-near}
 
@@ -21,13 +22,6 @@ pub record Held (f : Format) (x : Float) (y : Fraction) (M e : ℕ) : Type 0 whe
   pub value : HasValue x sign size (2 ^ low f)
   pub small : size ≤ M
   pub near : Close (pl sign size * y .scale) (mi sign size * y .scale) (y .over * 2 ^ low f) (y .under * 2 ^ low f) (e * y .scale)
-
--- ---- the fractions' own sum and product
-abbrev pub plus : Fraction → Fraction → Fraction
-plus x y = record { over = x .over * y .scale + y .over * x .scale; under = x .under * y .scale + y .under * x .scale; scale = x .scale * y .scale }
-
-abbrev pub times : Fraction → Fraction → Fraction
-times x y = record { over = x .over * y .over + x .under * y .under; under = x .over * y .under + x .under * y .over; scale = x .scale * y .scale }
 
 -- ---- sums
 pub close-scale : (k a b c d e : ℕ) → Close a b c d e → Close (a * k) (b * k) (c * k) (d * k) (e * k)
@@ -94,7 +88,7 @@ same-sign h d l c K L m = omega arith
 cross-sign : (h d l c K L : ℕ) → d * c ≤ K * L → Close ((h + d) * l + h * (l + c)) ((h + d) * (l + c) + h * l) 0 0 (K * L)
 cross-sign h d l c K L m = omega arith
 
-signed-le : (g h k l K L : ℕ) → g ≤ h + K → h ≤ g + K → k ≤ l + L → l ≤ k + L → Close (g * k + h * l) (g * l + h * k) 0 0 (K * L)
+pub signed-le : (g h k l K L : ℕ) → g ≤ h + K → h ≤ g + K → k ≤ l + L → l ≤ k + L → Close (g * k + h * l) (g * l + h * k) 0 0 (K * L)
 signed-le g h k l K L a b c d = go (apart g h) (apart k l)
   where
     Goal : ℕ → ℕ → ℕ → ℕ → Type 0
@@ -131,10 +125,10 @@ mul-error P N A B K E P' N' A' B' K' E' m m' c c' =
         → Close (P * P' + N * N') (P * N' + N * P') (A * A' + B * B') (A * B' + B * A') (K * E' + K' * E + E * E')
     sum-up s1 s2 s3 = omega arith
 
-close-trans : (z y c d a b e e' : ℕ) → Close z y c d e → Close c d a b e' → Close z y a b (e + e')
+pub close-trans : (z y c d a b e e' : ℕ) → Close z y c d e → Close c d a b e' → Close z y a b (e + e')
 close-trans z y c d a b e e' h k = omega arith
 
-close-cancel : (U z y a b e : ℕ) → 0 < U → Close (z * U) (y * U) (a * U) (b * U) (e * U) → Close z y a b e
+pub close-cancel : (U z y a b e : ℕ) → 0 < U → Close (z * U) (y * U) (a * U) (b * U) (e * U) → Close z y a b e
 close-cancel U z y a b e P h = (le-of-mul-le-mul-right (lo (h .0)) P, le-of-mul-le-mul-right (hi (h .1)) P)
   where
     lo : z * U + b * U ≤ a * U + y * U + e * U → (z + b) * U ≤ (a + y + e) * U
@@ -143,7 +137,7 @@ close-cancel U z y a b e P h = (le-of-mul-le-mul-right (lo (h .0)) P, le-of-mul-
     hi : a * U + y * U ≤ z * U + b * U + e * U → (a + y) * U ≤ (z + b + e) * U
     hi g = omega arith
 
-close-weaken : (z y a b e e' : ℕ) → e ≤ e' → Close z y a b e → Close z y a b e'
+pub close-weaken : (z y a b e e' : ℕ) → e ≤ e' → Close z y a b e → Close z y a b e'
 close-weaken z y a b e e' l h = omega arith
 
 mul-arith : (p n q a b e M p' n' q' a' b' e' M' z y r X U : ℕ) → 0 < U → Close p n 0 0 M → Close p' n' 0 0 M'
@@ -172,7 +166,7 @@ mul-arith p n q a b e M p' n' q' a' b' e' M' z y r X U P m m' h k l x =
     room : (M * e' + M' * e + e * e') * (q * q') ≤ X * U * (q * q') → r * U * (q * q') + (M * q * (e' * q') + M' * q' * (e * q) + e * q * (e' * q')) ≤ (r + X) * (q * q') * U
     room g = omega arith
 
-over-div : (n U : ℕ) → 0 < U → n ≤ (n / U + 1) * U
+pub over-div : (n U : ℕ) → 0 < U → n ≤ (n / U + 1) * U
 over-div n U P =
     let a : n / U * U + n % U ≡ n = div-add-mod' n U in
     let b : n % U < U = mod-lt n P in
