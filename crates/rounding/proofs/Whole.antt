@@ -58,7 +58,7 @@ pub whole-from : (j n : ℕ) → j + n ≡ 52 → (lo x : Float) → T (positive
 whole-from j n e lo x a b t g h =
     is-whole j n e x b t (le-trans (through (2 ^ j) (num lo) (num x) 1 (den lo) (den x) (den-pos lo) (leb→le (2 ^ j * den lo) (num lo * 1) g) (le→cross lo x a b h)) (le-of-eq (mul-one (num x))))
 
-value-scale : (k : ℕ) (x : Float) (s : Bool) (a c : ℕ) → HasValue x s a c → HasValue x s (a * k) (c * k)
+pub value-scale : (k : ℕ) (x : Float) (s : Bool) (a c : ℕ) → HasValue x s a c → HasValue x s (a * k) (c * k)
 value-scale k nan s a c h = h
 value-scale k (inf t) s a c h = h
 value-scale k (fin t m e) s a c h = (h .0, sym (mul-assoc (m * up e) c k) ∙ ap (λ (z : ℕ). z * k) (h .1) ∙ mul-right-comm a (down e) k)
