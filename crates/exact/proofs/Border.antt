@@ -2,7 +2,7 @@
 -- a millionth of a kelvin below the exact border is on region 3's side, and one as far above it is refused with 8. Assumes nothing.
 use mathlib.Core.Path.{_≡_, refl, ap, _∙_, subst}
 use Prim.Native.Nat.{ℕ, _+_, _*_, _/_, _^_, _≤_, _<_}
-use native.Mathlib.Nat.{le-trans, le-add-right, le-add-left, le-of-lt, mul-le-mul-right}
+use native.Mathlib.Nat.{le-trans, le-of-lt, mul-le-mul-right}
 use mathlib.Core.Bool.{Bool, true, false, not, cond}
 use lib.Dec.{T, lit<, lit≤}
 use lib.Pow.{pow-pos}
@@ -13,8 +13,8 @@ use Rattle.common.specs.Decimal as decimals
 use Rattle.common.specs.Decimal.{scaled}
 use Rattle.inverses.specs.Root.{wholeRoot}
 use Rattle.border.specs.Border as f64
-use Rattle.border.specs.Border.{region3Box}
-use Rattle.border.proofs.Never.{borderAt, eight-alone}
+use Rattle.border.specs.Border.{B23-p2T, region3Box}
+use Rattle.border.proofs.Never.{borderAt, never-lost, eight-alone}
 use Rattle.rounding.specs.Fraction.{Fraction, ratio, Near, scaledBy}
 use Rattle.rounding.proofs.Near.{held-near}
 use Rattle.rounding.proofs.Expressions.{Ex, con, var, sum, difference, quotient, root, float, exact, always}
@@ -22,10 +22,10 @@ use Rattle.rounding.proofs.BoundByRange.{Bound, bound, Known, plain, within, wi
 use Rattle.rounding.proofs.Whole.{known-between}
 use Rattle.distance.specs.Exact.{Q}
 use Rattle.distance.specs.Distance.{unit}
-use Rattle.distance.specs.Letter.{kelvin, tolerance}
-use Rattle.exact.specs.Border.{n3, n4, n5, border, InBox, BorderClear}
-use Rattle.exact.proofs.Sides.{Sided, Side, side-of}
-use Rattle.exact.proofs.Box.{whole-p, upto-100, whole-t, from-16, box}
+use Rattle.exact.specs.Border.{n3, n4, n5, border, BorderClear}
+use Rattle.exact.specs.Premises.{InBox}
+use Rattle.exact.proofs.Placed.{placed, box-is}
+use Rattle.exact.proofs.Judged.{Followed, judge-by}
 
 -- ---- the expression: its constants are the printed decimals, each beside the f64 nearest it, which is the rule's own coefficient
 abbrev nearest : Fraction → Float
@@ -78,10 +78,10 @@ module _ (p : Float) (P : ℕ) (held : T (fits binary64 p)) (whole-p : HasValue 
         subst (λ (y : Float). Known y (border n P) (plain (600 * 2 ^ 1074) (900 * 2 ^ 1074) error)) number-is
         (subst (λ (z : Fraction). Known (float (always p) border-ex) z (plain (600 * 2 ^ 1074) (900 * 2 ^ 1074) error)) exact-is known)
 
-    pub border-near : Near (borderAt p) (border n P) border-distance unit
+    border-near : Near (borderAt p) (border n P) border-distance unit
     border-near = held-near border-distance unit (border-known .held) (lit≤ tt)
 
-    pub border-scale : 0 < border n P .scale
+    border-scale : 0 < border n P .scale
     border-scale = border-known .inside .positive
 
 -- ---- the test against it
@@ -89,25 +89,24 @@ module _ (p t : Float) (i : InBox p t) where
   abbrev P : ℕ
   P = scaledBy 48 p
 
-  from : 16528 * Q ≤ P * 1000
-  from = le-of-lt (from-16 p t i)
-
-  to : P * 1000 ≤ 100000 * Q
-  to = le-trans (mul-le-mul-right 1000 (upto-100 p t i)) (lit≤ tt)
-
-  -- at a depth that serves both
-  beside : (below : Bool) (N : ℕ) → Side below (kelvin (scaledBy 43 t)) (border (N + 80) P) 1 tolerance → Sided t (borderAt p) below
-  beside below N s =
-      side-of t (borderAt p) (scaledBy 43 t) (2 ^ 43) (border (N + 80) P) border-distance unit 1 tolerance (pow-pos 43)
-      (border-scale p P (i .p-f64) (whole-p p t i) from to (N + 80) (le-add-left 80 N)) (lit< tt) (whole-t p t i)
-      (border-near p P (i .p-f64) (whole-p p t i) from to (N + 80) (le-add-left 80 N)) below s
-
-  sided : (below : Bool) → BorderClear below P (scaledBy 43 t) → Sided t (borderAt p) below
-  sided true s = beside true (s .0) (s .1 (s .0 + 80) (le-add-right (s .0) 80))
-  sided false s = beside false (s .0) (s .1 (s .0 + 80) (le-add-right (s .0) 80))
+  abbrev pub border-followed : Followed (B23-p2T p) (λ n. border n P) border-distance unit
+  border-followed =
+      let g = placed p t i in
+      let from = le-of-lt (g .from-16) in
+      let to = le-trans (mul-le-mul-right 1000 (g .upto-100)) (lit≤ tt) in
+      record {
+        number = borderAt p;
+        is = never-lost p (i .p-from) (i .p-to);
+        close = λ n deep. border-near p P (i .p-f64) (g .whole-p) from to n deep;
+        positive = λ n deep. border-scale p P (i .p-f64) (g .whole-p) from to n deep;
+      }
 
   by-side : (below : Bool) → BorderClear below P (scaledBy 43 t) → region3Box p t ≡ cond (not below) (refused 8) (value tt)
-  by-side below s = eight-alone p t (box p t i) ∙ ap (λ (b : Bool). cond b (refused 8) (value tt)) (sided below s .beyond)
+  by-side below s =
+      let g = placed p t i in
+      eight-alone p t (box-is p t i)
+      ∙ ap (λ (b : Bool). cond b (refused 8) (value tt))
+      (judge-by p P (i .p-f64) (g .whole-p) t (scaledBy 43 t) (g .whole-t) (lit< tt) border-followed below s .beyond)
 
   -- a millionth of a kelvin below the exact border: on region 3's side
   pub below-border : BorderClear true P (scaledBy 43 t) → region3Box p t ≡ value tt

@@ -2,9 +2,6 @@
 -- The limit for growing n is the border's temperature at p = P / 2^48. Assumes nothing: these are definitions.
 use Prim.Native.Nat.{ℕ, _*_, _^_}
 use mathlib.Core.Bool.{Bool}
-use lib.Dec.{T}
-use lib.Ieee.{Float, binary64, fits, le}
-use Rattle.common.specs.Constant.{P-FROM, P-TO, T-FROM, T-TO}
 use Rattle.rounding.specs.Fraction.{Fraction, ratio}
 use Rattle.rounding.specs.Arithmetic.{plus, minus, by, rootAt}
 use Rattle.distance.specs.Exact.{Q}
@@ -25,15 +22,6 @@ n5 = ratio (0_13918839778870 * 10 ^ 2) (10 ^ 14)
 unfoldable pub border : ℕ → ℕ → Fraction
 unfolding rootAt
 border n P = plus n4 (rootAt n (by (minus (ratio P Q) n5) n3))
-
--- two f64s of the box: p from 16.529 to 100 MPa, t from 623.15 to 863.15 K
-pub record InBox (p t : Float) : Type 0 where
-  pub p-f64 : T (fits binary64 p)
-  pub t-f64 : T (fits binary64 t)
-  pub p-from : T (le P-FROM p)
-  pub p-to : T (le p P-TO)
-  pub t-from : T (le T-FROM t)
-  pub t-to : T (le t T-TO)
 
 -- T lies a millionth of a kelvin or more from the border, below it (true) or above it (false)
 abbrev pub BorderClear : Bool → ℕ → ℕ → Type 0
