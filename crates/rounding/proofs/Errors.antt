@@ -12,6 +12,7 @@ use lib.Ieee.{Float, Format, low, add, mul}
 use lib.Ieee.Exact.{HasValue}
 use lib.Ieee.Scale.{overflow}
 use Rattle.rounding.specs.Fraction.{Fraction}
+use Rattle.rounding.specs.Arithmetic.{plus, times}
 use Rattle.rounding.proofs.Round.{slack}
 use Rattle.rounding.proofs.Ops.{pl, mi, Close, add-near, mul-near}
 
@@ -21,13 +22,6 @@ pub record Held (f : Format) (x : Float) (y : Fraction) (M e : ℕ) : Type 0 whe
   pub value : HasValue x sign size (2 ^ low f)
   pub small : size ≤ M
   pub near : Close (pl sign size * y .scale) (mi sign size * y .scale) (y .over * 2 ^ low f) (y .under * 2 ^ low f) (e * y .scale)
-
--- ---- the fractions' own sum and product
-abbrev pub plus : Fraction → Fraction → Fraction
-plus x y = record { over = x .over * y .scale + y .over * x .scale; under = x .under * y .scale + y .under * x .scale; scale = x .scale * y .scale }
-
-abbrev pub times : Fraction → Fraction → Fraction
-times x y = record { over = x .over * y .over + x .under * y .under; under = x .over * y .under + x .under * y .over; scale = x .scale * y .scale }
 
 -- ---- sums
 pub close-scale : (k a b c d e : ℕ) → Close a b c d e → Close (a * k) (b * k) (c * k) (d * k) (e * k)
