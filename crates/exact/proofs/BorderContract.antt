@@ -36,8 +36,7 @@ use Rattle.boundary.specs.Choice.{abRule, cdefRule, chijkRule, clmnopjkRule, ne
 use Rattle.boundary.proofs.Limit.{limit-is}
 use Rattle.boundary.proofs.sub_region3_pT.Kinds as choice-kinds
 use Rattle.boundary.proofs.sub_region3_pT.Reads as choice
-use Rattle.exact.specs.Border.{BorderClear}
-use Rattle.exact.specs.Premises.{InBox}
+use Rattle.exact.specs.Premises.{InBox, BorderClear}
 use Rattle.exact.proofs.Border.{below-border, above-border}
 
 -- ---- behind the border, no step of the letter choice refuses with 8

@@ -14,17 +14,20 @@ use Rattle.common.specs.Outcome.{Outcome, value, valueIn}
 use Rattle.common.specs.Sum.{every}
 use Rattle.common.proofs.Sums.{both-left, both-right}
 use Rattle.rounding.specs.Fraction.{Fraction, ratio, signed, side, Under, Within, Near, scaledBy}
+use Rattle.border.specs.Border.{B23-p2T}
+use Rattle.subregion.specs.declared.Letter.{Letter}
 use Rattle.boundary.specs.Choice.{letterRule}
 use Rattle.distance.specs.Exact.{Q}
 use Rattle.distance.specs.Letter.{All, kelvin}
 use Rattle.exact.specs.Saturation.{limit}
 use Rattle.exact.specs.Limit.{Beside}
-use Rattle.exact.specs.Letter.{Line, lineAt, exactBand, linesOf, exactLetter}
-use Rattle.exact.specs.Premises.{InRegion3, PressureClear, Off, TemperatureClear, perKelvin, perMPa}
+use Rattle.exact.specs.Letter.{Line, exactBand, linesOf, exactLetter}
+use Rattle.exact.specs.Premises.{InBox, PressureClear, Off, Clear, perKelvin, perMPa}
 use Rattle.exact.proofs.BandLimit.{f64-limit, limit-near}
 use Rattle.exact.proofs.Sides.{Side, coarser}
-use Rattle.exact.proofs.Judged.{worked, InRange, followed}
+use Rattle.exact.proofs.Judged.{worked, InRange, Followed, followed}
 use Rattle.exact.proofs.Placed.{placed}
+use Rattle.exact.proofs.Border.{border-followed}
 use Rattle.exact.proofs.Whole.{in-range, exact-letter}
 
 -- u two below v, and v one from z: u one below z; the numbers are taken D times
@@ -116,28 +119,52 @@ line-test p t b = off-test (below-f64 p t b) (kelvin (scaledBy 43 t)) (fractionO
 abbrev pub lines-f64 : Float → List Line
 lines-f64 p = linesOf (exactBand (beyond-f64 p) (scaledBy 48 p)) (scaledBy 48 p)
 
-module _ (p t : Float) (i : InRegion3 p t) where
+abbrev pub border-test : Float → Float → Bool
+border-test p t = off-test true (kelvin (scaledBy 43 t)) (fractionOf (valueIn (B23-p2T p))) perKelvin
+
+-- all of them
+abbrev pub f64-test : Float → Float → Bool
+f64-test p t = border-test p t && pressure-test p && every (line-test p t) (lines-f64 p)
+
+module _ (p t : Float) (i : InBox p t) where
   abbrev P : ℕ
   P = scaledBy 48 p
 
-  p-clear : T (pressure-test p) → PressureClear (beyond-f64 p) P
-  p-clear h = met f64-limit (ratio P Q) limit 1 (10 ^ 13) perMPa (lit< tt) (lit≤ tt) (λ n deep. limit-near n deep) (not (beyond-f64 p)) h
+  abbrev n : ℕ
+  n = scaledBy 43 t
 
-  off : (b : Line) → InRange P b → T (line-test p t b) → Off b P (scaledBy 43 t) (below-f64 p t b)
-  off b r h =
-      let g = placed p t (i .box) in
-      let f = followed p P (g .p-f64) (g .whole-p) b r in
-      met (valueIn (worked b p)) (kelvin (scaledBy 43 t)) (lineAt b P) 1 (10 ^ 7) perKelvin (lit< tt) (lit≤ tt)
-      (λ n deep. subst (λ (y : Float). Near y (lineAt b P n) 1 (10 ^ 7)) (sym (ap valueIn (f .is))) (f .close n deep)) (below-f64 p t b) h
+  -- two margins from the f64 is one from what it follows
+  from-f64 : {o : Outcome Float} {θ : ℕ → Fraction} {k d : ℕ} → 0 < d → k * perKelvin ≤ d → Followed o θ k d → (σ : Bool)
+      → T (off-test σ (kelvin n) (fractionOf (valueIn o)) perKelvin) → Beside σ (kelvin n) θ 1 perKelvin
+  from-f64 {o} {θ} {k} {d} P l f σ h =
+      met (valueIn o) (kelvin n) θ k d perKelvin P l (λ m deep. subst (λ (y : Float). Near y (θ m) k d) (sym (ap valueIn (f .is))) (f .close m deep)) σ h
 
-  all-off : (bs : List Line) → All (InRange P) bs → T (every (line-test p t) bs) → All (λ b. Off b P (scaledBy 43 t) (below-f64 p t b)) bs
+  off : (b : Line) → InRange P b → T (line-test p t b) → Off b P n (below-f64 p t b)
+  off b r h = let g = placed p t i in from-f64 (lit< tt) (lit≤ tt) (followed p P (g .p-f64) (g .whole-p) b r) (below-f64 p t b) h
+
+  all-off : (bs : List Line) → All (InRange P) bs → T (every (line-test p t) bs) → All (λ b. Off b P n (below-f64 p t b)) bs
   unfolding every
   all-off [] r h = tt
   all-off (b ∷ bs) r h =
       (off b (r .0) (both-left (line-test p t b) (every (line-test p t) bs) h), all-off bs (r .1) (both-right (line-test p t b) (every (line-test p t) bs) h))
 
-  pub tested : T (pressure-test p) → T (every (line-test p t) (lines-f64 p)) → letterRule p t ≡ value (exactLetter (beyond-f64 p) (below-f64 p t) P)
-  tested h k =
-      let clear = p-clear h in
-      exact-letter p t i (beyond-f64 p) clear (below-f64 p t)
-      (all-off (lines-f64 p) (in-range p t (placed p t (i .box)) (beyond-f64 p) clear) k)
+  pub clear : T (f64-test p t) → Clear p t (beyond-f64 p) (below-f64 p t)
+  clear h =
+      let two = and-l (border-test p t && pressure-test p) (every (line-test p t) (lines-f64 p)) h in
+      let off-limit : PressureClear (beyond-f64 p) P =
+        met f64-limit (ratio P Q) limit 1 (10 ^ 13) perMPa (lit< tt) (lit≤ tt) (λ n deep. limit-near n deep) (not (beyond-f64 p))
+        (and-r (border-test p t) (pressure-test p) two) in
+      record {
+        box = i;
+        border = from-f64 (lit< tt) (lit≤ tt) (border-followed p t i) true (and-l (border-test p t) (pressure-test p) two);
+        pressure = off-limit;
+        lines = all-off (lines-f64 p) (in-range p t (placed p t i) (beyond-f64 p) off-limit)
+          (and-r (border-test p t && pressure-test p) (every (line-test p t) (lines-f64 p)) h);
+      }
+
+-- the letter in exact arithmetic, with the sides read off the f64s
+abbrev pub letter-f64 : Float → Float → Letter
+letter-f64 p t = exactLetter (beyond-f64 p) (below-f64 p t) (scaledBy 48 p)
+
+pub tested : (p t : Float) → InBox p t → T (f64-test p t) → letterRule p t ≡ value (letter-f64 p t)
+tested p t i h = exact-letter p t (beyond-f64 p) (below-f64 p t) (clear p t i h)

@@ -1,16 +1,15 @@
 -- To believe: where the exact letter is promised. p is P / 2^48 MPa and T is t / 2^43 K, P and t whole. Assumes nothing: these are definitions.
-use mathlib.Core.Bool.{Bool, not}
+use mathlib.Core.Bool.{Bool, true, not}
 use Prim.Native.Nat.{ℕ, _^_}
 use lib.Dec.{T}
 use lib.Ieee.{Float, binary64, fits, le}
-use Rattle.common.specs.Outcome.{valueIn}
 use Rattle.common.specs.Constant.{P-FROM, P-TO, T-FROM, T-TO}
-use Rattle.border.specs.Border.{B23-p2TRule}
-use Rattle.rounding.specs.Fraction.{ratio}
+use Rattle.rounding.specs.Fraction.{ratio, scaledBy}
 use Rattle.distance.specs.Exact.{Q}
 use Rattle.distance.specs.Letter.{All, kelvin, tolerance}
 use Rattle.exact.specs.Saturation.{limit}
 use Rattle.exact.specs.Limit.{Beside}
+use Rattle.exact.specs.Border.{border}
 use Rattle.exact.specs.Letter.{Line, lineAt, exactBand, linesOf}
 
 -- the margins: a millionth of a kelvin, and a millionth of a millionth of a MPa
@@ -29,10 +28,9 @@ pub record InBox (p t : Float) : Type 0 where
   pub t-from : T (le T-FROM t)
   pub t-to : T (le t T-TO)
 
--- and t is not above the border with region 2 as `B23_p2T` answers it
-pub record InRegion3 (p t : Float) : Type 0 where
-  pub box : InBox p t
-  pub t-border : T (le t (valueIn (B23-p2TRule p)))
+-- T is off the border with region 2 by the margin, below it (true) or above it (false)
+abbrev pub BorderClear : Bool → ℕ → ℕ → Type 0
+BorderClear below P t = Beside below (kelvin t) (λ n. border n P) 1 perKelvin
 
 -- p is off p_saturation(643.15) by the margin, above it where `beyond`
 abbrev pub PressureClear : Bool → ℕ → Type 0
@@ -43,5 +41,12 @@ abbrev pub Off : Line → ℕ → ℕ → Bool → Type 0
 Off b P t σ = Beside σ (kelvin t) (lineAt b P) 1 perKelvin
 
 -- T is off each line of p's band, below those of which `below` says so and above the others
-abbrev pub TemperatureClear : Bool → (Line → Bool) → ℕ → ℕ → Type 0
-TemperatureClear beyond below P t = All (λ b. Off b P t (below b)) (linesOf (exactBand beyond P) P)
+abbrev pub LinesClear : Bool → (Line → Bool) → ℕ → ℕ → Type 0
+LinesClear beyond below P t = All (λ b. Off b P t (below b)) (linesOf (exactBand beyond P) P)
+
+-- all together: two f64s of the box, T below the border, p off the limit and T off the lines
+pub record Clear (p t : Float) (beyond : Bool) (below : Line → Bool) : Type 0 where
+  pub box : InBox p t
+  pub border : BorderClear true (scaledBy 48 p) (scaledBy 43 t)
+  pub pressure : PressureClear beyond (scaledBy 48 p)
+  pub lines : LinesClear beyond below (scaledBy 48 p) (scaledBy 43 t)
