@@ -78,10 +78,10 @@ module _ (p : Float) (P : ℕ) (held : T (fits binary64 p)) (whole-p : HasValue 
         subst (λ (y : Float). Known y (border n P) (plain (600 * 2 ^ 1074) (900 * 2 ^ 1074) error)) number-is
         (subst (λ (z : Fraction). Known (float (always p) border-ex) z (plain (600 * 2 ^ 1074) (900 * 2 ^ 1074) error)) exact-is known)
 
-    border-near : Near (borderAt p) (border n P) border-distance unit
+    pub border-near : Near (borderAt p) (border n P) border-distance unit
     border-near = held-near border-distance unit (border-known .held) (lit≤ tt)
 
-    border-scale : 0 < border n P .scale
+    pub border-scale : 0 < border n P .scale
     border-scale = border-known .inside .positive
 
 -- ---- the test against it
