@@ -1,4 +1,4 @@
--- The border in f64 against equation 6 worked exactly, its root cut off after n digits: within 5e-13 K for every f64 p of the box and every n from 80 on. So a T
+-- The border in f64 against equation 6 worked exactly, its root cut off after n digits: within its distance, 5e-13 K, for every f64 p of the box and every n from 80 on. So a T
 -- a millionth of a kelvin below the exact border is on region 3's side, and one as far above it is refused with 8. Assumes nothing.
 use mathlib.Core.Path.{_≡_, refl, ap, _∙_, subst}
 use Prim.Native.Nat.{ℕ, _+_, _*_, _/_, _^_, _≤_, _<_}
@@ -22,6 +22,7 @@ use Rattle.rounding.proofs.BoundByRange.{Bound, bound, Known, plain, within, wi
 use Rattle.rounding.proofs.Whole.{known-between}
 use Rattle.distance.specs.Exact.{Q}
 use Rattle.distance.specs.Distance.{unit}
+use Rattle.exact.specs.Distance.{borderDistance}
 use Rattle.exact.specs.Border.{n3, n4, n5, border}
 use Rattle.exact.specs.Premises.{InBox, BorderClear}
 use Rattle.exact.proofs.Placed.{placed, box-is}
@@ -38,16 +39,12 @@ coefficients = (refl, refl, refl)
 unfoldable border-ex : Ex
 border-ex = sum (con (nearest n4) n4) (root (quotient (difference (var 0) (con (nearest n5) n5)) (con (nearest n3) n3)))
 
--- in units of 1 / unit K
-abbrev pub border-distance : ℕ
-border-distance = 5
-
 -- p is from 16.528 to 100 MPa
 abbrev p-bound : Bound
 p-bound = plain (16528 * 2 ^ 1074 / 1000) (100000 * 2 ^ 1074 / 1000 + 1) 0
 
 abbrev error : ℕ
-error = border-distance * 2 ^ 1074 / unit
+error = borderDistance * 2 ^ 1074 / unit
 
 test : T (within (bound (always p-bound) border-ex) (600 * 2 ^ 1074) (900 * 2 ^ 1074) error)
 unfolding bound border-ex wholeRoot size round neg fits
@@ -78,8 +75,8 @@ module _ (p : Float) (P : ℕ) (held : T (fits binary64 p)) (whole-p : HasValue 
         subst (λ (y : Float). Known y (border n P) (plain (600 * 2 ^ 1074) (900 * 2 ^ 1074) error)) number-is
         (subst (λ (z : Fraction). Known (float (always p) border-ex) z (plain (600 * 2 ^ 1074) (900 * 2 ^ 1074) error)) exact-is known)
 
-    pub border-near : Near (borderAt p) (border n P) border-distance unit
-    border-near = held-near border-distance unit (border-known .held) (lit≤ tt)
+    pub border-near : Near (borderAt p) (border n P) borderDistance unit
+    border-near = held-near borderDistance unit (border-known .held) (lit≤ tt)
 
     pub border-scale : 0 < border n P .scale
     border-scale = border-known .inside .positive
@@ -89,7 +86,7 @@ module _ (p t : Float) (i : InBox p t) where
   abbrev P : ℕ
   P = scaledBy 48 p
 
-  abbrev pub border-followed : Followed (B23-p2T p) (λ n. border n P) border-distance unit
+  abbrev pub border-followed : Followed (B23-p2T p) (λ n. border n P) borderDistance unit
   border-followed =
       let g = placed p t i in
       let from = le-of-lt (g .from-16) in
