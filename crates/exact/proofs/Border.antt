@@ -22,7 +22,7 @@ use Rattle.rounding.proofs.BoundByRange.{Bound, bound, Known, plain, within, wi
 use Rattle.rounding.proofs.Whole.{known-between}
 use Rattle.distance.specs.Exact.{Q}
 use Rattle.distance.specs.Distance.{unit}
-use Rattle.exact.specs.Border.{n3, n4, n5, border}
+use Rattle.exact_lines.specs.Border.{n3, n4, n5, border}
 use Rattle.exact.specs.Premises.{InBox, BorderClear}
 use Rattle.exact.proofs.Placed.{placed, box-is}
 use Rattle.exact.proofs.Judged.{Followed, judge-by}
