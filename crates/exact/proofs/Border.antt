@@ -8,11 +8,10 @@ use lib.Dec.{T, lit<, lit≤}
 use lib.Pow.{pow-pos}
 use lib.Ieee.{Float, binary64, round, neg, size, fits}
 use lib.Ieee.Exact.{HasValue}
-use Rattle.common.specs.Outcome.{Outcome, value, refused, orNan}
+use Rattle.common.specs.Outcome.{Outcome, value, refused}
 use Rattle.common.specs.Decimal as decimals
 use Rattle.common.specs.Decimal.{scaled}
 use Rattle.inverses.specs.Root.{wholeRoot}
-use Rattle.border.specs.Border as f64
 use Rattle.border.specs.Border.{B23-p2T, region3Box}
 use Rattle.border.proofs.Never.{borderAt, never-lost, eight-alone}
 use Rattle.rounding.specs.Fraction.{Fraction, ratio, Near, scaledBy}
@@ -23,21 +22,15 @@ use Rattle.rounding.proofs.Whole.{known-between}
 use Rattle.distance.specs.Exact.{Q}
 use Rattle.distance.specs.Distance.{unit}
 use Rattle.exact.specs.Distance.{borderDistance}
-use Rattle.exact.specs.Border.{n3, n4, n5, border}
+use Rattle.exact_lines.specs.Border.{n3, n4, n5, border}
+use Rattle.exact_lines.proofs.Pins.{rounded}
 use Rattle.exact.specs.Premises.{InBox, BorderClear}
 use Rattle.exact.proofs.Placed.{placed, box-is}
 use Rattle.exact.proofs.Judged.{Followed, judge-by}
 
--- ---- the expression: its constants are the printed decimals, each beside the f64 nearest it, which is the rule's own coefficient
-abbrev nearest : Fraction → Float
-nearest y = round binary64 false (y .over) (y .scale)
-
-coefficients : (nearest n3 ≡ orNan f64.n3) × (nearest n4 ≡ orNan f64.n4) × (nearest n5 ≡ orNan f64.n5)
-unfolding decimals.plus scaled
-coefficients = (refl, refl, refl)
-
+-- ---- the expression: its constants are the printed decimals, each beside the f64 nearest it
 unfoldable border-ex : Ex
-border-ex = sum (con (nearest n4) n4) (root (quotient (difference (var 0) (con (nearest n5) n5)) (con (nearest n3) n3)))
+border-ex = sum (con (rounded n4) n4) (root (quotient (difference (var 0) (con (rounded n5) n5)) (con (rounded n3) n3)))
 
 -- p is from 16.528 to 100 MPa
 abbrev p-bound : Bound
@@ -63,8 +56,8 @@ module _ (p : Float) (P : ℕ) (held : T (fits binary64 p)) (whole-p : HasValue 
 
     -- what the rule works is the expression
     number-is : float (always p) border-ex ≡ borderAt p
-    unfolding float border-ex
-    number-is = rw (coefficients .0, coefficients .1, coefficients .2)
+    unfolding float border-ex decimals.plus scaled round
+    number-is = refl
 
     exact-is : exact n (always (ratio P Q)) border-ex ≡ border n P
     unfolding exact border-ex border

@@ -24,8 +24,8 @@ use Rattle.boundaries.specs.declared.Boundary.the-variants.{Uv, Ef, Wx}
 use Rattle.boundary.specs.Choice.{nearRule}
 use Rattle.distance.specs.Exact.{Polynomial, ef, uv, temperature, Q}
 use Rattle.distance.specs.Letter.{All}
-use Rattle.exact.specs.Saturation.{saturation}
-use Rattle.exact.specs.Letter.{Line, in-p, line3wx, saturationLine, lineAt, above, nearLines, nearLetter}
+use Rattle.exact_lines.specs.Saturation.{saturation}
+use Rattle.exact_lines.specs.Letter.{Line, in-p, line3wx, saturationLine, lineAt, above, nearLines, nearLetter}
 use Rattle.exact.specs.Premises.{Off}
 use Rattle.exact.proofs.Sides.{Sided}
 use Rattle.exact.proofs.Judged.{InRange, Judged, Followed, reach, scale-positive, followed, judge-by, judge, judge-all}

@@ -16,8 +16,8 @@ use Rattle.common.specs.Decimal.{whole, decimal, scaled}
 use Rattle.rounding.specs.Fraction.{ratio, scaledBy}
 use Rattle.rounding.proofs.Compare.{lt-values}
 use Rattle.distance.specs.Exact.{Q}
-use Rattle.exact.specs.Saturation.{limit}
-use Rattle.exact.specs.Letter.{above}
+use Rattle.exact_lines.specs.Saturation.{limit}
+use Rattle.exact_lines.specs.Letter.{above}
 use Rattle.exact.specs.Premises.{PressureClear, perMPa}
 use Rattle.exact.proofs.BandLimit.{f64-limit, limit-in, limit-near}
 use Rattle.exact.proofs.Sides.{side-of, deep-side}

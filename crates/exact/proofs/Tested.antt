@@ -19,9 +19,9 @@ use Rattle.subregion.specs.declared.Letter.{Letter}
 use Rattle.boundary.specs.Choice.{letterRule}
 use Rattle.distance.specs.Exact.{Q}
 use Rattle.distance.specs.Letter.{All, kelvin}
-use Rattle.exact.specs.Saturation.{limit}
-use Rattle.exact.specs.Limit.{Beside}
-use Rattle.exact.specs.Letter.{Line, exactBand, linesOf, exactLetter}
+use Rattle.exact_lines.specs.Saturation.{limit}
+use Rattle.exact_lines.specs.Limit.{Beside}
+use Rattle.exact_lines.specs.Letter.{Line, exactBand, linesOf, exactLetter}
 use Rattle.exact.specs.Premises.{InBox, PressureClear, Off, Clear, perKelvin, perMPa}
 use Rattle.exact.proofs.BandLimit.{f64-limit, limit-near}
 use Rattle.exact.proofs.Sides.{Side, coarser}

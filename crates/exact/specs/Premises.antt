@@ -7,10 +7,10 @@ use Rattle.common.specs.Constant.{P-FROM, P-TO, T-FROM, T-TO}
 use Rattle.rounding.specs.Fraction.{ratio, scaledBy}
 use Rattle.distance.specs.Exact.{Q}
 use Rattle.distance.specs.Letter.{All, kelvin, tolerance}
-use Rattle.exact.specs.Saturation.{limit}
-use Rattle.exact.specs.Limit.{Beside}
-use Rattle.exact.specs.Border.{border}
-use Rattle.exact.specs.Letter.{Line, lineAt, exactBand, linesOf}
+use Rattle.exact_lines.specs.Saturation.{limit}
+use Rattle.exact_lines.specs.Limit.{Beside}
+use Rattle.exact_lines.specs.Border.{border}
+use Rattle.exact_lines.specs.Letter.{Line, lineAt, exactBand, linesOf}
 
 -- the margins: a millionth of a kelvin, and a millionth of a millionth of a MPa
 abbrev pub perKelvin : ℕ

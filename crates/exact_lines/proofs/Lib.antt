@@ -1,0 +1,3 @@
+pub mod Series
+pub mod Pins
+pub mod Published
