@@ -152,14 +152,14 @@ module _ (p t : Float) (i : InBox p t) where
   clear h =
       let two = and-l (border-test p t && pressure-test p) (every (line-test p t) (lines-f64 p)) h in
       let off-limit : PressureClear (beyond-f64 p) P =
-        met f64-limit (ratio P Q) limit 1 (10 ^ 13) perMPa (lit< tt) (lit≤ tt) (λ n deep. limit-near n deep) (not (beyond-f64 p))
-        (and-r (border-test p t) (pressure-test p) two) in
+      met f64-limit (ratio P Q) limit 1 (10 ^ 13) perMPa (lit< tt) (lit≤ tt) (λ n deep. limit-near n deep) (not (beyond-f64 p))
+      (and-r (border-test p t) (pressure-test p) two) in
       record {
         box = i;
         border = from-f64 (lit< tt) (lit≤ tt) (border-followed p t i) true (and-l (border-test p t) (pressure-test p) two);
         pressure = off-limit;
         lines = all-off (lines-f64 p) (in-range p t (placed p t i) (beyond-f64 p) off-limit)
-          (and-r (border-test p t && pressure-test p) (every (line-test p t) (lines-f64 p)) h);
+            (and-r (border-test p t && pressure-test p) (every (line-test p t) (lines-f64 p)) h);
       }
 
 -- the letter in exact arithmetic, with the sides read off the f64s
