@@ -1,4 +1,4 @@
--- The border in f64 against equation 6 worked exactly, its root cut off after n digits: within 5e-13 K for every f64 p of the box and every n from 80 on. So a T
+-- The border in f64 against equation 6 worked exactly, its root cut off after n digits: within its distance, 5e-13 K, for every f64 p of the box and every n from 80 on. So a T
 -- a millionth of a kelvin below the exact border is on region 3's side, and one as far above it is refused with 8. Assumes nothing.
 use mathlib.Core.Path.{_≡_, refl, ap, _∙_, subst}
 use Prim.Native.Nat.{ℕ, _+_, _*_, _/_, _^_, _≤_, _<_}
@@ -8,11 +8,10 @@ use lib.Dec.{T, lit<, lit≤}
 use lib.Pow.{pow-pos}
 use lib.Ieee.{Float, binary64, round, neg, size, fits}
 use lib.Ieee.Exact.{HasValue}
-use Rattle.common.specs.Outcome.{Outcome, value, refused, orNan}
+use Rattle.common.specs.Outcome.{Outcome, value, refused}
 use Rattle.common.specs.Decimal as decimals
 use Rattle.common.specs.Decimal.{scaled}
 use Rattle.inverses.specs.Root.{wholeRoot}
-use Rattle.border.specs.Border as f64
 use Rattle.border.specs.Border.{B23-p2T, region3Box}
 use Rattle.border.proofs.Never.{borderAt, never-lost, eight-alone}
 use Rattle.rounding.specs.Fraction.{Fraction, ratio, Near, scaledBy}
@@ -22,32 +21,23 @@ use Rattle.rounding.proofs.BoundByRange.{Bound, bound, Known, plain, within, wi
 use Rattle.rounding.proofs.Whole.{known-between}
 use Rattle.distance.specs.Exact.{Q}
 use Rattle.distance.specs.Distance.{unit}
+use Rattle.exact.specs.Distance.{borderDistance}
 use Rattle.exact_lines.specs.Border.{n3, n4, n5, border}
+use Rattle.exact_lines.proofs.Pins.{rounded}
 use Rattle.exact.specs.Premises.{InBox, BorderClear}
 use Rattle.exact.proofs.Placed.{placed, box-is}
 use Rattle.exact.proofs.Judged.{Followed, judge-by}
 
--- ---- the expression: its constants are the printed decimals, each beside the f64 nearest it, which is the rule's own coefficient
-abbrev nearest : Fraction → Float
-nearest y = round binary64 false (y .over) (y .scale)
-
-coefficients : (nearest n3 ≡ orNan f64.n3) × (nearest n4 ≡ orNan f64.n4) × (nearest n5 ≡ orNan f64.n5)
-unfolding decimals.plus scaled
-coefficients = (refl, refl, refl)
-
+-- ---- the expression: its constants are the printed decimals, each beside the f64 nearest it
 unfoldable border-ex : Ex
-border-ex = sum (con (nearest n4) n4) (root (quotient (difference (var 0) (con (nearest n5) n5)) (con (nearest n3) n3)))
-
--- in units of 1 / unit K
-abbrev pub border-distance : ℕ
-border-distance = 5
+border-ex = sum (con (rounded n4) n4) (root (quotient (difference (var 0) (con (rounded n5) n5)) (con (rounded n3) n3)))
 
 -- p is from 16.528 to 100 MPa
 abbrev p-bound : Bound
 p-bound = plain (16528 * 2 ^ 1074 / 1000) (100000 * 2 ^ 1074 / 1000 + 1) 0
 
 abbrev error : ℕ
-error = border-distance * 2 ^ 1074 / unit
+error = borderDistance * 2 ^ 1074 / unit
 
 test : T (within (bound (always p-bound) border-ex) (600 * 2 ^ 1074) (900 * 2 ^ 1074) error)
 unfolding bound border-ex wholeRoot size round neg fits
@@ -66,8 +56,8 @@ module _ (p : Float) (P : ℕ) (held : T (fits binary64 p)) (whole-p : HasValue 
 
     -- what the rule works is the expression
     number-is : float (always p) border-ex ≡ borderAt p
-    unfolding float border-ex
-    number-is = rw (coefficients .0, coefficients .1, coefficients .2)
+    unfolding float border-ex decimals.plus scaled round
+    number-is = refl
 
     exact-is : exact n (always (ratio P Q)) border-ex ≡ border n P
     unfolding exact border-ex border
@@ -78,8 +68,8 @@ module _ (p : Float) (P : ℕ) (held : T (fits binary64 p)) (whole-p : HasValue 
         subst (λ (y : Float). Known y (border n P) (plain (600 * 2 ^ 1074) (900 * 2 ^ 1074) error)) number-is
         (subst (λ (z : Fraction). Known (float (always p) border-ex) z (plain (600 * 2 ^ 1074) (900 * 2 ^ 1074) error)) exact-is known)
 
-    pub border-near : Near (borderAt p) (border n P) border-distance unit
-    border-near = held-near border-distance unit (border-known .held) (lit≤ tt)
+    pub border-near : Near (borderAt p) (border n P) borderDistance unit
+    border-near = held-near borderDistance unit (border-known .held) (lit≤ tt)
 
     pub border-scale : 0 < border n P .scale
     border-scale = border-known .inside .positive
@@ -89,7 +79,7 @@ module _ (p t : Float) (i : InBox p t) where
   abbrev P : ℕ
   P = scaledBy 48 p
 
-  abbrev pub border-followed : Followed (B23-p2T p) (λ n. border n P) border-distance unit
+  abbrev pub border-followed : Followed (B23-p2T p) (λ n. border n P) borderDistance unit
   border-followed =
       let g = placed p t i in
       let from = le-of-lt (g .from-16) in
