@@ -39,7 +39,7 @@ agrees v =
     leb (2 * 10 ^ v .places * side x y) (2 * 10 ^ v .places * side y x + x .scale * y .scale)
     && leb (2 * 10 ^ v .places * side y x) (2 * 10 ^ v .places * side x y + x .scale * y .scale)
 
--- S05rev, table 3, and 3uv, 3wx of table 11; R7-97, table 36, and equation 6
+-- S05rev for the twelve boundaries; R7-97, table 36 and equation 6
 pub values : List Value
 unfolding lineAt border saturation
 values =
@@ -71,10 +71,10 @@ pub record Point : Type 0 where
   pub t : Float
   pub letter : Letter
 
-abbrev at : Float → Float → Letter → Point
+abbrev pub at : Float → Float → Letter → Point
 at p t l = record { p = p; t = t; letter = l }
 
--- S05rev, tables 5 and 13
+-- the points at which S05rev prints check values of the volume equations
 unfoldable pub published : List Point
 unfolding decimal whole
 published =
@@ -139,7 +139,7 @@ further =
     at (decimal 20_8 1) (whole 630) letters.C
     ∷ at (decimal 20_8 1) (whole 640) letters.S
     ∷ at (decimal 20_8 1) (decimal 642_5 1) letters.R
-    ∷ at (decimal 20_8 1) (whole 660) letters.K
+    ∷ at (decimal 20_8 1) (whole 650) letters.K
     ∷ at (whole 17) (whole 624) letters.C
     ∷ at (whole 20) (whole 625) letters.C
     ∷ at (decimal 23_2 1) (whole 640) letters.C
@@ -151,7 +151,7 @@ further =
     ∷ at (decimal 22_7 1) (whole 653) letters.J
     ∷ at (decimal 22_7 1) (whole 660) letters.K
     ∷ at (decimal 21_5 1) (whole 630) letters.C
-    ∷ at (decimal 21_5 1) (whole 660) letters.K
+    ∷ at (decimal 21_5 1) (whole 655) letters.K
     ∷ []
 
 -- which side, at a depth that decides it
