@@ -1,7 +1,7 @@
 -- No power of p up to 4 either way is lost, where p is a whole number of 2^-48 and at most 100: it is 0, or from 2^-48 to 2^48. Assumes nothing.
-use mathlib.Core.Path.{_≡_, refl, sym, ap, _∙_, subst}
+use mathlib.Core.Path.{_≡_, refl, sym, subst}
 use mathlib.Core.Logic.{inl, inr}
-use mathlib.Core.Bool.{Bool, true, false}
+use mathlib.Core.Bool.{true, false}
 use Prim.Native.Nat.{ℕ, _*_, _^_, _≤_, _<_}
 use native.Mathlib.Nat.{eq-zero-or-pos, le-trans, le-of-eq, mul-le-mul-right, le-of-mul-le-mul-right, mul-right-comm, mul-pos, one-mul}
 use native.Mathlib.Omega.{arith}
@@ -12,7 +12,6 @@ use lib.Ieee.{Float, nan, inf, fin, up, down}
 use lib.Ieee.Exact.{HasValue}
 use lib.Ieee.Fits.{up-pos}
 use borrow.Author.Tests.{leb-true, le-leb, eq-eqb}
-use Rattle.sizes.proofs.Band.{Band}
 use Rattle.common.specs.Outcome.{check}
 use Rattle.rules.specs.Power.{powerRule}
 use Rattle.rules.specs.RawPower.{rawPower}

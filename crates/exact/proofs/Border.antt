@@ -8,7 +8,7 @@ use lib.Dec.{T, lit<, lit≤}
 use lib.Pow.{pow-pos}
 use lib.Ieee.{Float, binary64, round, neg, size, fits}
 use lib.Ieee.Exact.{HasValue}
-use Rattle.common.specs.Outcome.{Outcome, value, refused}
+use Rattle.common.specs.Outcome.{value, refused}
 use Rattle.common.specs.Decimal as decimals
 use Rattle.common.specs.Decimal.{scaled}
 use Rattle.inverses.specs.Root.{wholeRoot}

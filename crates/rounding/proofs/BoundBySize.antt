@@ -1,6 +1,6 @@
 -- The computed bound by sizes: how large an expression's float is at most and how far from the exact value, in units of 2^-1074. It asks for no sign, so it
 -- serves a sum whose parts cancel; it has no quotient and no root: for those see BoundByRange. Assumes nothing.
-use Prim.Native.Nat.{ℕ, _*_, _^_, _≤_, _<_}
+use Prim.Native.Nat.{ℕ, _*_, _^_}
 use mathlib.Core.Bool.{Bool, true, false, _&&_}
 use lib.Dec.{T, leb, ltb, ltb→lt, leb→le}
 use lib.Ieee.{Float, binary64, add, sub}
