@@ -39,10 +39,16 @@ kept-of (fin s m e) P N h l few i small =
     let four : natAbs i ≤ 4 = leb-true (natAbs i) 4 small in
     let ok : leb (natAbs i) 64 ≡ true = le-leb (natAbs i) 64 (omega arith) in
     elim (eq-zero-or-pos P) [
-      | inl z ↦ power-zero (fin s m e) i (eq-eqb m 0 (none m (up e) Q (down e) (up-pos e) (pow-pos 48) (subst (λ (x : ℕ). m * up e * Q ≡ x * down e) z (h .1)))) ok
+      | inl z ↦ power-zero (fin s m e) i (eq-eqb m 0
+          (none m (up e) Q (down e) (up-pos e) (pow-pos 48) (subst (λ (x : ℕ). m * up e * Q ≡ x * down e) z (h .1)))) ok
       | inr q ↦
           power-band 48 (fin s m e) i
-          (record { kept = refl; least = least (m * up e) (down e) P Q q (h .1); most = le-trans (most (m * up e) (down e) P N Q (pow-pos 48) (h .1) l) (mul-le-mul-right (down e) (le-trans few hundred)) })
+          (record {
+            kept = refl;
+            least = least (m * up e) (down e) P Q q (h .1);
+            most = le-trans (most (m * up e) (down e) P N Q (pow-pos 48) (h .1) l)
+                (mul-le-mul-right (down e) (le-trans few hundred));
+          })
           ok (omega arith)
     ]
   where

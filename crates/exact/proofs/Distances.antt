@@ -106,7 +106,8 @@ module _ (p : Float) (held : T (fits binary64 p)) (from : T (le P-FROM p)) (to :
   unfolding B23-p2TRule
   distance-border =
       let f = border-followed p T-FROM boxed in
-      follows {o = B23-p2TRule p} (λ n. border n P) borderDistance (f .number) (rw (at .finite-p, is-true (le P-FROM p) from, is-true (le p P-TO) to) (f .is)) (f .close)
+      follows {o = B23-p2TRule p} (λ n. border n P) borderDistance (f .number) (rw (at .finite-p, is-true (le P-FROM p) from, is-true (le p P-TO) to) (f .is))
+      (f .close)
 
 -- ---- an f64 p of the saturation line
 module _ (p : Float) (held : T (fits binary64 p)) (from : T (le P-FROM p)) (to : T (le p P-MAX4)) where
@@ -140,7 +141,8 @@ module _ (p : Float) (held : T (fits binary64 p)) (from : T (le P-FROM p)) (to :
   unfolding T-saturationRule lineAt
   distance-saturation =
       let s = saturation-near p P4 held (place .whole-p) (place .upto-100) (place .from-16) upto-critical in
-      follows {o = T-saturationRule p} (lineAt saturationLine P4) saturationDistance (s .number) (rw (place .finite-p, is-true (le P-FROM p) from, is-true (le p P-MAX4) to) (s .is)) (s .close)
+      follows {o = T-saturationRule p} (lineAt saturationLine P4) saturationDistance (s .number)
+      (rw (place .finite-p, is-true (le P-FROM p) from, is-true (le p P-MAX4) to) (s .is)) (s .close)
 
 -- ---- on the contracts
 module _ (κs : Lfts 0) (a : Dens κs line-kinds.ps) (e : AtExit (endedOf 0 line-kinds.ps line-kinds.r) κs) (r : resT line-kinds.r κs .Denot)
