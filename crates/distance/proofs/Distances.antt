@@ -31,7 +31,8 @@ record Sure (b : Polynomial) : Type 0 where
   some : T (ltb 0 (top b))
   few : T (leb (top b) 100)
 
-abbrev passed : (b : Polynomial) → T (tight (top b * 2 ^ 1074) (ex (form b)) (distance b) unit) → T (taken (form b)) → T (even (form b)) → T (ltb 0 (top b)) → T (leb (top b) 100) → Sure b
+abbrev passed : (b : Polynomial) → T (tight (top b * 2 ^ 1074) (ex (form b)) (distance b) unit) → T (taken (form b)) → T (even (form b)) → T (ltb 0 (top b))
+    → T (leb (top b) 100) → Sure b
 passed b a c d e f = record { is-tight = a; is-taken = c; is-even = d; some = e; few = f }
 
 test : (b : Polynomial) → Sure b
@@ -57,10 +58,12 @@ unfolding temperature
 boundary-reaches b p P h l =
     subst (Reaches b P) (sym (written b p ∙ form-check (form b) p (bare-of p P (top b) h l (leb→le (top b) 100 (test b .few))) (test b .is-taken)))
     (reached b P (float (always p) (ex (form b)))
-    (expression-near 0 (distance b) unit (held-value binary64 p P Q (2 ^ 1026) (top b) refl l h) (ex (form b)) (form-same (form b) P (test b .is-even)) (test b .is-tight)))
+    (expression-near 0 (distance b) unit (held-value binary64 p P Q (2 ^ 1026) (top b) refl l h) (ex (form b)) (form-same (form b) P (test b .is-even))
+    (test b .is-tight)))
 
 -- The call accepts every f64 p from 16.529 to the boundary's top, and its answer is within the boundary's distance of the exact temperature.
-pub boundary-distance : (b : Polynomial) (p : Float) → T (fits binary64 p) → T (le P-FROM p) → T (le p (whole (top b))) → Reaches b (scaledBy 48 p) (boundaryRule (kind b) p)
+pub boundary-distance : (b : Polynomial) (p : Float) → T (fits binary64 p) → T (le P-FROM p) → T (le p (whole (top b)))
+    → Reaches b (scaledBy 48 p) (boundaryRule (kind b) p)
 unfolding boundaryRule
 boundary-distance b p held from to =
     let some = ltb→lt 0 (top b) (test b .some) in

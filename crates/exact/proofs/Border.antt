@@ -1,4 +1,5 @@
--- The border in f64 against equation 6 worked exactly, its root cut off after n digits: within its distance, 5e-13 K, for every f64 p of the box and every n from 80 on. So a T
+-- The border in f64 against equation 6 worked exactly, its root cut off after n digits: within its distance, 5e-13 K, for every f64 p of the box and every n
+-- from 80 on. So a T
 -- a millionth of a kelvin below the exact border is on region 3's side, and one as far above it is refused with 8. Assumes nothing.
 use mathlib.Core.Path.{_≡_, refl, ap, _∙_, subst}
 use Prim.Native.Nat.{ℕ, _+_, _*_, _/_, _^_, _≤_, _<_}
@@ -8,7 +9,7 @@ use lib.Dec.{T, lit<, lit≤}
 use lib.Pow.{pow-pos}
 use lib.Ieee.{Float, binary64, round, neg, size, fits}
 use lib.Ieee.Exact.{HasValue}
-use Rattle.common.specs.Outcome.{Outcome, value, refused}
+use Rattle.common.specs.Outcome.{value, refused}
 use Rattle.common.specs.Decimal as decimals
 use Rattle.common.specs.Decimal.{scaled}
 use Rattle.inverses.specs.Root.{wholeRoot}
@@ -51,7 +52,8 @@ module _ (p : Float) (P : ℕ) (held : T (fits binary64 p)) (whole-p : HasValue 
     known : Known (float (always p) border-ex) (exact n (always (ratio P Q)) border-ex) (plain (600 * 2 ^ 1074) (900 * 2 ^ 1074) error)
     known =
         let b = bound (always p-bound) border-ex in
-        let w = works n deep (always p) (always (ratio P Q)) (always p-bound) (λ i k. p-known) border-ex (within-ok b (600 * 2 ^ 1074) (900 * 2 ^ 1074) error test) in
+        let w = works n deep (always p) (always (ratio P Q)) (always p-bound) (λ i k. p-known) border-ex
+        (within-ok b (600 * 2 ^ 1074) (900 * 2 ^ 1074) error test) in
         widen b (600 * 2 ^ 1074) (900 * 2 ^ 1074) error (w .known) test
 
     -- what the rule works is the expression

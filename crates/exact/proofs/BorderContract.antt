@@ -32,7 +32,8 @@ use Rattle.boundaries.specs.declared.Boundary.{Boundary}
 use Rattle.boundaries.specs.declared.Boundary.the-variants.{Ab, Cd, Ef, Gh, Ij, Jk, Mn, Op, Qu, Rx, Uv, Wx}
 use Rattle.boundaries.proofs.TableSums.{by-row, by-line}
 use Rattle.choosers.specs.Choosers.{Band, ab, cdef, cghijk, clhijk, clmnopjk, cq-rk, csrk, cst, ct, bandOf}
-use Rattle.boundary.specs.Choice.{abRule, cdefRule, chijkRule, clmnopjkRule, nearRule, cq-rkRule, csrkRule, cstRule, ctRule, inBand, limit, letterAt, letterRule}
+use Rattle.boundary.specs.Choice.{abRule, cdefRule, chijkRule, clmnopjkRule, nearRule, cq-rkRule, csrkRule, cstRule, ctRule, inBand, limit, letterAt}
+use Rattle.boundary.specs.Choice.{letterRule}
 use Rattle.boundary.proofs.Limit.{limit-is}
 use Rattle.boundary.proofs.sub_region3_pT.Kinds as choice-kinds
 use Rattle.boundary.proofs.sub_region3_pT.Reads as choice

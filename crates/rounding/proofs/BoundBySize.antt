@@ -1,6 +1,6 @@
 -- The computed bound by sizes: how large an expression's float is at most and how far from the exact value, in units of 2^-1074. It asks for no sign, so it
 -- serves a sum whose parts cancel; it has no quotient and no root: for those see BoundByRange. Assumes nothing.
-use Prim.Native.Nat.{ℕ, _*_, _^_, _≤_, _<_}
+use Prim.Native.Nat.{ℕ, _*_, _^_}
 use mathlib.Core.Bool.{Bool, true, false, _&&_}
 use lib.Dec.{T, leb, ltb, ltb→lt, leb→le}
 use lib.Ieee.{Float, binary64, add, sub}
@@ -51,7 +51,8 @@ sizeOf b (root s) = none
 abbrev pub HeldBy : Float → Fraction → Size → Type 0
 HeldBy v w a = Held binary64 v w (a .size) (a .error)
 
-held-sum : {v v' : Float} {w w' : Fraction} (a b : Size) → HeldBy v w a → HeldBy v' w' b → T (sum-of a b .ok) → HeldBy (add binary64 v v') (plus w w') (sum-of a b)
+held-sum : {v v' : Float} {w w' : Fraction} (a b : Size) → HeldBy v w a → HeldBy v' w' b → T (sum-of a b .ok)
+    → HeldBy (add binary64 v v') (plus w w') (sum-of a b)
 held-sum a b h k t =
     let o = ltb (sum-size binary64 (a .size) (b .size)) (overflow binary64) in
     held-add h k (ltb→lt (sum-size binary64 (a .size) (b .size)) (overflow binary64) (and-r (a .ok && b .ok) o t))
@@ -79,7 +80,8 @@ module _ (n : ℕ) (x : ℕ → Float) (y : ℕ → Fraction) (b : ℕ → Size)
       let c = sizeOf b t in
       let o = ltb (product-size binary64 (a .size) (c .size)) (overflow binary64) in
       let g = both (a .ok) (c .ok) o k in
-      held-mul (held-by-size s (g .0)) (held-by-size t (g .1)) (ltb→lt (product-size binary64 (a .size) (c .size)) (overflow binary64) (and-r (a .ok && c .ok) o k))
+      held-mul (held-by-size s (g .0)) (held-by-size t (g .1))
+      (ltb→lt (product-size binary64 (a .size) (c .size)) (overflow binary64) (and-r (a .ok && c .ok) o k))
   held-by-size (quotient s t) k = absurd k
   held-by-size (minus s) k = held-neg (held-by-size s k)
   held-by-size (root s) k = absurd k
@@ -92,9 +94,11 @@ unfoldable pub tight : ℕ → Ex → ℕ → ℕ → Bool
 unfolding sizeOf
 tight M t N D = sizeOf (always (upto M)) t .ok && leb (sizeOf (always (upto M)) t .error * D) (N * 2 ^ 1074)
 
-pub expression-near : {x : Float} {y z : Fraction} {M : ℕ} (n N D : ℕ) → Held binary64 x y M 0 → (t : Ex) → Same (exact n (always y) t) z → T (tight M t N D) → Near (float (always x) t) z N D
+pub expression-near : {x : Float} {y z : Fraction} {M : ℕ} (n N D : ℕ) → Held binary64 x y M 0 → (t : Ex) → Same (exact n (always y) t) z → T (tight M t N D)
+    → Near (float (always x) t) z N D
 unfolding tight
 expression-near {x} {y} {M = M} n N D h t s k =
     let b = sizeOf (always (upto M)) t in
     let l = leb (b .error * D) (N * 2 ^ 1074) in
-    held-near N D (held-same s (held-by-size n (always x) (always y) (always (upto M)) (λ i _. h) t (and-l (b .ok) l k))) (leb→le (b .error * D) (N * 2 ^ 1074) (and-r (b .ok) l k))
+    held-near N D (held-same s (held-by-size n (always x) (always y) (always (upto M)) (λ i _. h) t (and-l (b .ok) l k)))
+    (leb→le (b .error * D) (N * 2 ^ 1074) (and-r (b .ok) l k))

@@ -59,7 +59,8 @@ le-exact false false m e n d =
     let b = n * up d * down e in
     let x = a + 0 * down e in
     let y = b + 0 * down d in
-    same-test (ltb a b || (eqb a b && true)) (leb x y) (λ u. le→leb x y (pad a b (down e) (down d) (le-test a b u))) (λ u. test-le a b (bare a b (down e) (down d) (leb→le x y u)))
+    same-test (ltb a b || (eqb a b && true)) (leb x y) (λ u. le→leb x y (pad a b (down e) (down d) (le-test a b u)))
+    (λ u. test-le a b (bare a b (down e) (down d) (leb→le x y u)))
   where
     pad : (a b c g : ℕ) → a ≤ b → a + 0 * c ≤ b + 0 * g
     pad a b c g l = omega arith
@@ -86,7 +87,8 @@ le-exact true false m e n d =
     let a = m * up e * down d in
     let b = n * up d * down e in
     let x = 0 * down d + 0 * down e in
-    same-test (ltb 0 (a + b) || (eqb a b && eqb a 0)) (leb x (b + a)) (λ u. le→leb x (b + a) (always a b (down e) (down d))) (λ u. go a b (ltb 0 (a + b)) (nltb→le 0 (a + b)))
+    same-test (ltb 0 (a + b) || (eqb a b && eqb a 0)) (leb x (b + a)) (λ u. le→leb x (b + a) (always a b (down e) (down d)))
+    (λ u. go a b (ltb 0 (a + b)) (nltb→le 0 (a + b)))
   where
     always : (a b c g : ℕ) → 0 * g + 0 * c ≤ b + a
     always a b c g = omega arith
@@ -105,7 +107,8 @@ le-exact true true m e n d =
     let b = n * up d * down e in
     let x = 0 * down d + b in
     let y = 0 * down e + a in
-    same-test (ltb b a || (eqb a b && true)) (leb x y) (λ u. le→leb x y (pad a b (down e) (down d) (le-test b a (swap (ltb b a) a b u)))) (λ u. swap (ltb b a) b a (test-le b a (bare a b (down e) (down d) (leb→le x y u))))
+    same-test (ltb b a || (eqb a b && true)) (leb x y) (λ u. le→leb x y (pad a b (down e) (down d) (le-test b a (swap (ltb b a) a b u))))
+    (λ u. swap (ltb b a) b a (test-le b a (bare a b (down e) (down d) (leb→le x y u))))
   where
     pad : (a b c g : ℕ) → b ≤ a → 0 * g + b ≤ 0 * c + a
     pad a b c g l = omega arith
@@ -126,11 +129,13 @@ clear-arith L R L' R' W n d n' d' P h k l = lt-of-mul-lt-mul-right (d * d') (go 
     go : (L * d' + n' * W) * d ≤ R * d' * d → R' * d * d' ≤ (L' * d + n * W) * d' → n * d' * W < n' * d * W → (L + R') * (d * d') < (R + L') * (d * d')
     go x y z = omega arith
 
-pub below-clear : (a b c A B S α β γ n d n' d' : ℕ) → 0 < c → 0 < S → 0 < γ → (a * S + B * c) * d' + n' * (c * S) ≤ (A * c + b * S) * d' → (A * γ + β * S) * d ≤ (α * S + B * γ) * d + n * (γ * S) → n * d' < n' * d
+pub below-clear : (a b c A B S α β γ n d n' d' : ℕ) → 0 < c → 0 < S → 0 < γ → (a * S + B * c) * d' + n' * (c * S) ≤ (A * c + b * S) * d'
+    → (A * γ + β * S) * d ≤ (α * S + B * γ) * d + n * (γ * S) → n * d' < n' * d
     → a * γ + β * c < α * c + b * γ
 below-clear a b c A B S α β γ n d n' d' C O G h k l =
     lt-of-mul-lt-mul-right S
-    (shape (clear-arith ((a * S + B * c) * γ) ((A * c + b * S) * γ) ((α * S + B * γ) * c) ((A * γ + β * S) * c) (c * S * γ) n d n' d' (mul-pos (mul-pos C O) G) (first (mul-le-mul-right γ h)) (second (mul-le-mul-right c k)) l))
+    (shape (clear-arith ((a * S + B * c) * γ) ((A * c + b * S) * γ) ((α * S + B * γ) * c) ((A * γ + β * S) * c) (c * S * γ) n d n' d' (mul-pos (mul-pos C O) G)
+    (first (mul-le-mul-right γ h)) (second (mul-le-mul-right c k)) l))
   where
     first : ((a * S + B * c) * d' + n' * (c * S)) * γ ≤ (A * c + b * S) * d' * γ → (a * S + B * c) * γ * d' + n' * (c * S * γ) ≤ (A * c + b * S) * γ * d'
     first g = omega arith
@@ -141,7 +146,8 @@ below-clear a b c A B S α β γ n d n' d' C O G h k l =
     shape : (a * S + B * c) * γ + (A * γ + β * S) * c < (A * c + b * S) * γ + (α * S + B * γ) * c → (a * γ + β * c) * S < (α * c + b * γ) * S
     shape g = omega arith
 
-pub above-clear : (a b c A B S α β γ n d n' d' : ℕ) → 0 < c → 0 < S → 0 < γ → (A * c + b * S) * d' + n' * (S * c) ≤ (a * S + B * c) * d' → (α * S + B * γ) * d ≤ (A * γ + β * S) * d + n * (γ * S) → n * d' < n' * d
+pub above-clear : (a b c A B S α β γ n d n' d' : ℕ) → 0 < c → 0 < S → 0 < γ → (A * c + b * S) * d' + n' * (S * c) ≤ (a * S + B * c) * d'
+    → (α * S + B * γ) * d ≤ (A * γ + β * S) * d + n * (γ * S) → n * d' < n' * d
     → α * c + b * γ < a * γ + β * c
 above-clear a b c A B S α β γ n d n' d' C O G h k l = last (below-clear b a c B A S β α γ n d n' d' C O G (first h) (second k) l)
   where
@@ -154,16 +160,20 @@ above-clear a b c A B S α β γ n d n' d' C O G h k l = last (below-clear b a c
     second : (α * S + B * γ) * d ≤ (A * γ + β * S) * d + n * (γ * S) → (B * γ + α * S) * d ≤ (β * S + A * γ) * d + n * (γ * S)
     second g = omega arith
 
-fractions-agree : (u v z : Fraction) (n d n' d' : ℕ) → 0 < u .scale → 0 < v .scale → 0 < z .scale → 0 < d' → n * d' < n' * d → Within v z n d → Apart u z n' d' → atMost u v ≡ atMost u z
+fractions-agree : (u v z : Fraction) (n d n' d' : ℕ) → 0 < u .scale → 0 < v .scale → 0 < z .scale → 0 < d' → n * d' < n' * d → Within v z n d → Apart u z n' d'
+    → atMost u v ≡ atMost u z
 fractions-agree u v z n d n' d' X Y Z D less w (inl g) =
-    is-true (atMost u v) (le→leb (side u v) (side v u) (le-of-lt (below-clear (u .over) (u .under) (u .scale) (z .over) (z .under) (z .scale) (v .over) (v .under) (v .scale) n d n' d' X Z Y g (w .1) less)))
+    is-true (atMost u v) (le→leb (side u v) (side v u)
+    (le-of-lt (below-clear (u .over) (u .under) (u .scale) (z .over) (z .under) (z .scale) (v .over) (v .under) (v .scale) n d n' d' X Z Y g (w .1) less)))
     ∙ sym (is-true (atMost u z) (le→leb (side u z) (side z u) (le-of-mul-le-mul-right (drop (side u z * d') (side z u * d') (n' * (u .scale * z .scale)) g) D)))
   where
     drop : (a b k : ℕ) → a + k ≤ b → a ≤ b
     drop a b k l = omega arith
 fractions-agree u v z n d n' d' X Y Z D less w (inr g) =
-    is-false (atMost u v) (lt→nleb (side u v) (side v u) (above-clear (u .over) (u .under) (u .scale) (z .over) (z .under) (z .scale) (v .over) (v .under) (v .scale) n d n' d' X Z Y g (w .0) less))
-    ∙ sym (is-false (atMost u z) (lt→nleb (side u z) (side z u) (lt-of-mul-lt-mul-right d' (more (side z u * d') (side u z * d') (n' * (z .scale * u .scale)) (mul-pos (some less) (mul-pos Z X)) g))))
+    is-false (atMost u v) (lt→nleb (side u v) (side v u)
+    (above-clear (u .over) (u .under) (u .scale) (z .over) (z .under) (z .scale) (v .over) (v .under) (v .scale) n d n' d' X Z Y g (w .0) less))
+    ∙ sym (is-false (atMost u z) (lt→nleb (side u z) (side z u)
+    (lt-of-mul-lt-mul-right d' (more (side z u * d') (side u z * d') (n' * (z .scale * u .scale)) (mul-pos (some less) (mul-pos Z X)) g))))
   where
     more : (a b k : ℕ) → 0 < k → a + k ≤ b → a < b
     more a b k K l = omega arith
@@ -187,7 +197,8 @@ ratio-same X x t c v O C e = same-test (atMost (ratio X x) v) (atMost (ratio t c
         go γ α β g h = omega arith
 
 -- x is t / c, and y is near z: x ≤ y where t / c ≤ z
-pub le-agrees : (x y : Float) (t c : ℕ) (z : Fraction) (n d n' d' : ℕ) → 0 < c → 0 < z .scale → 0 < d' → n * d' < n' * d → HasValue x false t c → Near y z n d → Apart (ratio t c) z n' d' → le x y ≡ atMost (ratio t c) z
+pub le-agrees : (x y : Float) (t c : ℕ) (z : Fraction) (n d n' d' : ℕ) → 0 < c → 0 < z .scale → 0 < d' → n * d' < n' * d → HasValue x false t c → Near y z n d
+    → Apart (ratio t c) z n' d' → le x y ≡ atMost (ratio t c) z
 le-agrees nan y t c z n d n' d' C Z D l h w g = absurd h
 le-agrees (inf s) y t c z n d n' d' C Z D l h w g = absurd h
 le-agrees (fin true m e) y t c z n d n' d' C Z D l h w g = absurd (true≢false (h .0))
@@ -215,7 +226,8 @@ lt-values (fin false m e) (fin false n i) a c b d C D h k =
     let Y = n * up i in
     same-test (ltb (X * down i) (Y * down e)) (ltb (a * d) (b * c))
     (λ t. lt→ltb (a * d) (b * c) (across X (down e) Y (down i) a c b d C D (h .1) (k .1) (ltb→lt (X * down i) (Y * down e) t)))
-    (λ t. lt→ltb (X * down i) (Y * down e) (across a c b d X (down e) Y (down i) (down-pos e) (down-pos i) (sym (h .1)) (sym (k .1)) (ltb→lt (a * d) (b * c) t)))
+    (λ t. lt→ltb (X * down i) (Y * down e) (across a c b d X (down e) Y (down i) (down-pos e) (down-pos i) (sym (h .1)) (sym (k .1))
+    (ltb→lt (a * d) (b * c) t)))
   where
     across : (X x Y y a c b d : ℕ) → 0 < c → 0 < d → X * c ≡ a * x → Y * d ≡ b * y → X * y < Y * x → a * d < b * c
     across X x Y y a c b d C D p q l =

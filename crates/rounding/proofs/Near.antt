@@ -10,7 +10,7 @@ use lib.Ieee.{Float, nan, inf, fin, Format, low, up, down}
 use lib.Ieee.Exact.{HasValue}
 use Rattle.rounding.specs.Fraction.{Fraction, signed, Within, Near}
 use Rattle.rounding.proofs.Ops.{pl, mi, Close}
-use Rattle.rounding.proofs.Errors.{Held, close-scale}
+use Rattle.rounding.proofs.Errors.{CloseTo, Held, close-scale}
 
 -- ---- the same number as another fraction
 pub record Same (x y : Fraction) : Type 0 where
@@ -18,17 +18,20 @@ pub record Same (x y : Fraction) : Type 0 where
   pub unders : x .under * y .scale ≡ y .under * x .scale
   pub positive : 0 < x .scale
 
-same-arith : (p n q a b e A B S U : ℕ) → 0 < q → a * S ≡ A * q → b * S ≡ B * q → Close (p * q) (n * q) (a * U) (b * U) (e * q) → Close (p * S) (n * S) (A * U) (B * U) (e * S)
+same-arith : (p n q a b e A B S U : ℕ) → 0 < q → a * S ≡ A * q → b * S ≡ B * q → Close (p * q) (n * q) (a * U) (b * U) (e * q)
+    → Close (p * S) (n * S) (A * U) (B * U) (e * S)
 same-arith p n q a b e A B S U O g h c =
     let g' : a * S * U ≡ A * q * U = ap (λ (z : ℕ). z * U) g in
     let h' : b * S * U ≡ B * q * U = ap (λ (z : ℕ). z * U) h in
     let d = close-scale S (p * q) (n * q) (a * U) (b * U) (e * q) c in
     (le-of-mul-le-mul-right (lo g' h' (d .0)) O, le-of-mul-le-mul-right (hi g' h' (d .1)) O)
   where
-    lo : a * S * U ≡ A * q * U → b * S * U ≡ B * q * U → p * q * S + b * U * S ≤ a * U * S + n * q * S + e * q * S → (p * S + B * U) * q ≤ (A * U + n * S + e * S) * q
+    lo : a * S * U ≡ A * q * U → b * S * U ≡ B * q * U → p * q * S + b * U * S ≤ a * U * S + n * q * S + e * q * S
+        → (p * S + B * U) * q ≤ (A * U + n * S + e * S) * q
     lo x y z = omega arith
 
-    hi : a * S * U ≡ A * q * U → b * S * U ≡ B * q * U → a * U * S + n * q * S ≤ p * q * S + b * U * S + e * q * S → (A * U + n * S) * q ≤ (p * S + B * U + e * S) * q
+    hi : a * S * U ≡ A * q * U → b * S * U ≡ B * q * U → a * U * S + n * q * S ≤ p * q * S + b * U * S + e * q * S
+        → (A * U + n * S) * q ≤ (p * S + B * U + e * S) * q
     hi x y z = omega arith
 
 pub held-same : {f : Format} {x : Float} {y z : Fraction} {M e : ℕ} → Same y z → Held f x y M e → Held f x z M e
@@ -37,7 +40,8 @@ held-same {f} {x} {y} {z} {M} {e} s h = record {
   size = h .size;
   value = h .value;
   small = h .small;
-  near = same-arith (pl (h .sign) (h .size)) (mi (h .sign) (h .size)) (y .scale) (y .over) (y .under) e (z .over) (z .under) (z .scale) (2 ^ low f) (s .positive) (s .overs) (s .unders) (h .near);
+  near = same-arith (pl (h .sign) (h .size)) (mi (h .sign) (h .size)) (y .scale) (y .over) (y .under) e (z .over) (z .under) (z .scale) (2 ^ low f)
+      (s .positive) (s .overs) (s .unders) (h .near);
 }
 
 -- ---- in the reader's terms
@@ -48,10 +52,12 @@ units-arith p n x z e A B S c u h k g =
     let k' : z * u * S ≡ n * c * S = ap (λ (w : ℕ). w * S) k in
     (lo h' k' (mul-le-mul-right c (g .0)), hi h' k' (mul-le-mul-right c (g .1)))
   where
-    lo : x * u * S ≡ p * c * S → z * u * S ≡ n * c * S → (p * S + B * u) * c ≤ (A * u + n * S + e * S) * c → (x * S + B * c) * u ≤ (A * c + z * S) * u + e * (c * S)
+    lo : x * u * S ≡ p * c * S → z * u * S ≡ n * c * S → (p * S + B * u) * c ≤ (A * u + n * S + e * S) * c
+        → (x * S + B * c) * u ≤ (A * c + z * S) * u + e * (c * S)
     lo h k g = omega arith
 
-    hi : x * u * S ≡ p * c * S → z * u * S ≡ n * c * S → (A * u + n * S) * c ≤ (p * S + B * u + e * S) * c → (A * c + z * S) * u ≤ (x * S + B * c) * u + e * (c * S)
+    hi : x * u * S ≡ p * c * S → z * u * S ≡ n * c * S → (A * u + n * S) * c ≤ (p * S + B * u + e * S) * c
+        → (A * c + z * S) * u ≤ (x * S + B * c) * u + e * (c * S)
     hi h k g = omega arith
 
 -- from e units of 1 / u to a tolerance N / D
@@ -76,11 +82,13 @@ held-near {f} {x} {y} {M} {e} N D h l = go x (h .sign) (h .size) (h .value) (h .
     none : (u c : ℕ) → 0 * u ≡ 0 * c
     none u c = omega arith
 
-    parts : (s : Bool) (X v c : ℕ) → X * U ≡ v * c → Close (pl s v * y .scale) (mi s v * y .scale) (y .over * U) (y .under * U) (e * y .scale) → Within (signed s X c) y N D
+    parts : (s : Bool) (X v c : ℕ) → X * U ≡ v * c → CloseTo s v y U e
+        → Within (signed s X c) y N D
     parts false X v c g k = near-arith v 0 X 0 e (y .over) (y .under) (y .scale) c U N D (pow-pos (low f)) g (none U c) k l
     parts true X v c g k = near-arith 0 v 0 X e (y .over) (y .under) (y .scale) c U N D (pow-pos (low f)) (none U c) g k l
 
-    go : (x : Float) (s : Bool) (v : ℕ) → HasValue x s v U → Close (pl s v * y .scale) (mi s v * y .scale) (y .over * U) (y .under * U) (e * y .scale) → Near x y N D
+    go : (x : Float) (s : Bool) (v : ℕ) → HasValue x s v U → CloseTo s v y U e
+        → Near x y N D
     go nan s v h k = h
     go (inf t) s v h k = h
     go (fin t m i) s v h k = subst (λ (r : Bool). Near (fin r m i) y N D) (sym (h .0)) (parts s (m * up i) v (down i) (h .1) k)

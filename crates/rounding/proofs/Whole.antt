@@ -2,7 +2,8 @@
 -- Assumes nothing.
 use mathlib.Core.Path.{_≡_, refl, sym, ap, _∙_, subst}
 use Prim.Native.Nat.{ℕ, zero, suc, _+_, _-_, _*_, _/_, _%_, _^_, _≤_, _<_}
-use native.Mathlib.Nat.{le-trans, le-of-eq, not-le-of-lt, lt-of-not-le, mul-one, mul-assoc, mul-right-comm, mul-le-mul-right, mul-le-mul-left, le-of-mul-le-mul-right, div-one, div-mul-le-self, mul-div-cancel}
+use native.Mathlib.Nat.{le-trans, le-of-eq, not-le-of-lt, lt-of-not-le, mul-one, mul-assoc, mul-right-comm, mul-le-mul-right, mul-le-mul-left}
+use native.Mathlib.Nat.{le-of-mul-le-mul-right, div-one, div-mul-le-self, mul-div-cancel}
 use native.Mathlib.Omega.{arith}
 use mathlib.Core.Bool.{Bool, true, false, _&&_}
 use lib.IntN.{ℤ, pos, negsuc}
@@ -56,9 +57,11 @@ is-whole j n e (fin false m (negsuc k)) p t l =
     (refl, w ∙ sym (ap (λ (z : ℕ). z / D * D) w ∙ ap (λ (z : ℕ). z * D) (mul-div-cancel (m * 2 ^ (n - suc k)) (pow-pos (suc k)))))
 
 -- for an x from lo on, where lo is 2^j at least
-pub whole-from : (j n : ℕ) → j + n ≡ 52 → (lo x : Float) → T (positive lo) → T (positive x) → T (fits binary64 x) → T (leb (2 ^ j * den lo) (num lo * 1)) → T (le lo x) → HasValue x false (scaledBy n x) (2 ^ n)
+pub whole-from : (j n : ℕ) → j + n ≡ 52 → (lo x : Float) → T (positive lo) → T (positive x) → T (fits binary64 x) → T (leb (2 ^ j * den lo) (num lo * 1))
+    → T (le lo x) → HasValue x false (scaledBy n x) (2 ^ n)
 whole-from j n e lo x a b t g h =
-    is-whole j n e x b t (le-trans (through (2 ^ j) (num lo) (num x) 1 (den lo) (den x) (den-pos lo) (leb→le (2 ^ j * den lo) (num lo * 1) g) (le→cross lo x a b h)) (le-of-eq (mul-one (num x))))
+    is-whole j n e x b t (le-trans (through (2 ^ j) (num lo) (num x) 1 (den lo) (den x) (den-pos lo) (leb→le (2 ^ j * den lo) (num lo * 1) g)
+    (le→cross lo x a b h)) (le-of-eq (mul-one (num x))))
 
 pub value-scale : (k : ℕ) (x : Float) (s : Bool) (a c : ℕ) → HasValue x s a c → HasValue x s (a * k) (c * k)
 value-scale k nan s a c h = h
@@ -85,7 +88,8 @@ held-value f x P Q k N e l h = record {
 pub known-between : (x : Float) (P Q k a b d : ℕ) → Q * k ≡ 2 ^ 1074 → 0 < Q → 0 < d → T (fits binary64 x) → HasValue x false P Q
     → a * Q ≤ P * d → P * d ≤ b * Q → Known x (ratio P Q) (plain (a * 2 ^ 1074 / d) (b * 2 ^ 1074 / d + 1) 0)
 known-between x P Q k a b d e O D f h l m =
-    let i : In false (ratio P Q) (2 ^ 1074) (a * 2 ^ 1074 / d) (b * 2 ^ 1074 / d + 1) = record { positive = O; least = least (2 ^ 1074); most = most (2 ^ 1074) } in
+    let i : In false (ratio P Q) (2 ^ 1074) (a * 2 ^ 1074 / d)
+    (b * 2 ^ 1074 / d + 1) = record { positive = O; least = least (2 ^ 1074); most = most (2 ^ 1074) } in
     record { held = tighten (held-value binary64 x P Q k P e (more O) h) i; inside = i; fitted = f }
   where
     more : 0 < Q → P ≤ P * Q
