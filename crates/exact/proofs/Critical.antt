@@ -27,7 +27,7 @@ use Rattle.distance.specs.Letter.{All}
 use Rattle.exact_lines.specs.Saturation.{saturation}
 use Rattle.exact_lines.specs.Letter.{Line, in-p, line3wx, saturationLine, lineAt, above, nearLines, nearLetter}
 use Rattle.exact.specs.Premises.{Off}
-use Rattle.exact.proofs.Sides.{Sided}
+use Rattle.rounding.proofs.Compare.{Sided}
 use Rattle.exact.proofs.Judged.{InRange, Judged, Followed, reach, scale-positive, followed, judge-by, judge, judge-all}
 use Rattle.exact.proofs.Placed.{Placed}
 use Rattle.exact.proofs.Pressures.{lt-is, yes-above, not-above, exact-22-11, exact-22-064, exact-21-9316, exact-21-9010, Ends, at-22-11, at-22-064, at-21-9316, at-21-9010}

@@ -14,13 +14,13 @@ use lib.Ieee.Bits.{is-true, is-false}
 use lib.Ieee.Exact.{HasValue}
 use Rattle.common.specs.Decimal.{whole, decimal, scaled}
 use Rattle.rounding.specs.Fraction.{ratio, scaledBy}
-use Rattle.rounding.proofs.Compare.{lt-values}
+use Rattle.rounding.proofs.Compare.{lt-values, side-of}
 use Rattle.distance.specs.Exact.{Q}
 use Rattle.exact_lines.specs.Saturation.{limit}
 use Rattle.exact_lines.specs.Letter.{above}
 use Rattle.exact.specs.Premises.{PressureClear, perMPa}
 use Rattle.exact.proofs.BandLimit.{f64-limit, limit-in, limit-near}
-use Rattle.exact.proofs.Sides.{side-of, deep-side}
+use Rattle.exact.proofs.Sides.{deep-side}
 
 -- a test of P against d / k, spread out
 pad-lt : (a b c e : ℕ) → b < a → b + 0 * e < a + 0 * c

@@ -24,7 +24,8 @@ use Rattle.exact_lines.specs.Limit.{Beside}
 use Rattle.exact_lines.specs.Letter.{Line, exactBand, linesOf, exactLetter}
 use Rattle.exact.specs.Premises.{InBox, PressureClear, Off, Clear, perKelvin, perMPa}
 use Rattle.exact.proofs.BandLimit.{f64-limit, limit-near}
-use Rattle.exact.proofs.Sides.{Side, coarser}
+use Rattle.rounding.proofs.Compare.{Side}
+use Rattle.rounding.proofs.Near.{coarser}
 use Rattle.exact.proofs.Judged.{worked, InRange, Followed, followed}
 use Rattle.exact.proofs.Placed.{placed}
 use Rattle.exact.proofs.Border.{border-followed}

@@ -8,7 +8,7 @@ use mathlib.Core.Bool.{Bool, true, false}
 use lib.Pow.{pow-pos}
 use lib.Ieee.{Float, nan, inf, fin, Format, low, up, down}
 use lib.Ieee.Exact.{HasValue}
-use Rattle.rounding.specs.Fraction.{Fraction, signed, Within, Near}
+use Rattle.rounding.specs.Fraction.{Fraction, signed, side, Within, Near}
 use Rattle.rounding.proofs.Ops.{pl, mi, Close}
 use Rattle.rounding.proofs.Errors.{CloseTo, Held, close-scale}
 
@@ -92,3 +92,17 @@ held-near {f} {x} {y} {M} {e} N D h l = go x (h .sign) (h .size) (h .value) (h .
     go nan s v h k = h
     go (inf t) s v h k = h
     go (fin t m i) s v h k = subst (λ (r : Bool). Near (fin r m i) y N D) (sym (h .0)) (parts s (m * up i) v (down i) (h .1) k)
+
+-- the same tolerance in coarser units
+coarser-arith : (X Y W k d D : ℕ) → 0 < d → k * D ≤ d → X * d ≤ Y * d + k * W → X * D ≤ Y * D + 1 * W
+coarser-arith X Y W k d D P l h = le-of-mul-le-mul-right (go (mul-le-mul-right D h) (mul-le-mul-right W l)) P
+  where
+    go : X * d * D ≤ (Y * d + k * W) * D → k * D * W ≤ d * W → X * D * d ≤ (Y * D + 1 * W) * d
+    go a b = omega (arith, a, b)
+
+pub coarser : (y : Float) (z : Fraction) (k d D : ℕ) → 0 < d → k * D ≤ d → Near y z k d → Near y z 1 D
+coarser nan z k d D P l h = h
+coarser (inf s) z k d D P l h = h
+coarser (fin s m e) z k d D P l h =
+    let y = signed s (m * up e) (down e) in
+    (coarser-arith (side y z) (side z y) (y .scale * z .scale) k d D P l (h .0), coarser-arith (side z y) (side y z) (y .scale * z .scale) k d D P l (h .1))
