@@ -1,6 +1,5 @@
--- The border in f64 against equation 6 worked exactly, its root cut off after n digits: within its distance, 5e-13 K, for every f64 p of the box and every n
--- from 80 on. So a T
--- a millionth of a kelvin below the exact border is on region 3's side, and one as far above it is refused with 8. Assumes nothing.
+-- The border in f64 against equation 6 worked exactly, its root cut off after n digits: within its distance for every f64 p of the box and every n from 80
+-- on. So a T a millionth of a kelvin below the exact border is on region 3's side, and one as far above it is refused with 8. Assumes nothing.
 use mathlib.Core.Path.{_≡_, refl, ap, _∙_, subst}
 use Prim.Native.Nat.{ℕ, _+_, _*_, _/_, _^_, _≤_, _<_}
 use native.Mathlib.Nat.{le-trans, le-of-lt, mul-le-mul-right}
@@ -37,10 +36,17 @@ border-ex = sum (con (rounded n4) n4) (root (quotient (difference (var 0) (con (
 abbrev p-bound : Bound
 p-bound = plain (16528 * 2 ^ 1074 / 1000) (100000 * 2 ^ 1074 / 1000 + 1) 0
 
+-- the border is from 600 to 900 K
+abbrev low : ℕ
+low = 600 * 2 ^ 1074
+
+abbrev high : ℕ
+high = 900 * 2 ^ 1074
+
 abbrev error : ℕ
 error = borderDistance * 2 ^ 1074 / unit
 
-test : T (within (bound (always p-bound) border-ex) (600 * 2 ^ 1074) (900 * 2 ^ 1074) error)
+test : T (within (bound (always p-bound) border-ex) low high error)
 unfolding bound border-ex wholeRoot size round neg fits
 test = tt
 
@@ -49,12 +55,11 @@ module _ (p : Float) (P : ℕ) (held : T (fits binary64 p)) (whole-p : HasValue 
   p-known = known-between p P Q (2 ^ 1026) 16528 100000 1000 refl (pow-pos 48) (lit< tt) held whole-p from to
 
   module _ (n : ℕ) (deep : 80 ≤ n) where
-    known : Known (float (always p) border-ex) (exact n (always (ratio P Q)) border-ex) (plain (600 * 2 ^ 1074) (900 * 2 ^ 1074) error)
+    known : Known (float (always p) border-ex) (exact n (always (ratio P Q)) border-ex) (plain low high error)
     known =
         let b = bound (always p-bound) border-ex in
-        let w = works n deep (always p) (always (ratio P Q)) (always p-bound) (λ i k. p-known) border-ex
-        (within-ok b (600 * 2 ^ 1074) (900 * 2 ^ 1074) error test) in
-        widen b (600 * 2 ^ 1074) (900 * 2 ^ 1074) error (w .known) test
+        let w = works n deep (always p) (always (ratio P Q)) (always p-bound) (λ i k. p-known) border-ex (within-ok b low high error test) in
+        widen b low high error (w .known) test
 
     -- what the rule works is the expression
     number-is : float (always p) border-ex ≡ borderAt p
@@ -65,10 +70,10 @@ module _ (p : Float) (P : ℕ) (held : T (fits binary64 p)) (whole-p : HasValue 
     unfolding exact border-ex border
     exact-is = refl
 
-    border-known : Known (borderAt p) (border n P) (plain (600 * 2 ^ 1074) (900 * 2 ^ 1074) error)
+    border-known : Known (borderAt p) (border n P) (plain low high error)
     border-known =
-        subst (λ (y : Float). Known y (border n P) (plain (600 * 2 ^ 1074) (900 * 2 ^ 1074) error)) number-is
-        (subst (λ (z : Fraction). Known (float (always p) border-ex) z (plain (600 * 2 ^ 1074) (900 * 2 ^ 1074) error)) exact-is known)
+        subst (λ (y : Float). Known y (border n P) (plain low high error)) number-is
+        (subst (λ (z : Fraction). Known (float (always p) border-ex) z (plain low high error)) exact-is known)
 
     pub border-near : Near (borderAt p) (border n P) borderDistance unit
     border-near = held-near borderDistance unit (border-known .held) (lit≤ tt)
