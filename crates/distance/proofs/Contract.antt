@@ -36,7 +36,7 @@ pub line-reaches : (κs : Lfts 0) (a : Dens κs line-kinds.ps) (e : AtExit (ende
 line-reaches κs a e r post b k held from to =
     subst (Reaches b (scaledBy 48 (a .0 .0))) (sym (post ∙ ap (λ (x : Boundary). boundaryRule x (a .0 .0)) k)) (boundary-distance b (a .0 .0) held from to)
 
-taken : (r : LetterAnswer) (l : Letter) → paperLetter r ≡ value l → r ≡ Value l
+pub taken : (r : LetterAnswer) (l : Letter) → paperLetter r ≡ value l → r ≡ Value l
 taken (Value m) l e = cc
 taken (Refused k) l e = absurd (never (numberOf k) l e)
   where

@@ -1,5 +1,5 @@
--- The letter near the critical point, for p above p_saturation(643.15) and up to 22.5. At the three f64s that lie just above a printed pressure the choice in f64
--- takes the branch of the pressures up to it; there the two lines that the branches look at are one to less than the margin. Assumes nothing.
+-- The letter near the critical point, for p above p_saturation(643.15) and up to 22.5. At the three f64s that lie just above a printed pressure the choice in
+-- f64 takes the branch of the pressures up to it; there the two lines that the branches look at are one to less than the margin. Assumes nothing.
 use mathlib.Core.Path.{_≡_, refl, sym, ap, _∙_, subst}
 use Prim.Native.Nat.{ℕ, _*_, _^_, _≤_, _<_}
 use native.Mathlib.Nat.{le-trans, lt-of-le-of-lt, mul-le-mul-right}
@@ -80,7 +80,8 @@ module _ (p t : Float) (g : Placed p t) where
 
     -- by what p is above; 22.11 < p ≤ 22.064 is no pressure
     by-ends : (a b c d : Bool) → lt (decimal 22_11 2) p ≡ a → lt (decimal 22_064 3) p ≡ b → lt (decimal 21_93161551 8) p ≡ c → lt (decimal 21_90096265 8) p ≡ d
-        → (T a → 2211 * Q < P * 100) → (T (not b) → P * 1000 ≤ 22064 * Q) → P ≤ 23 * Q → All O (near-lines b c d) → nearRule p t ≡ value (near-letter p t below a b c d)
+        → (T a → 2211 * Q < P * 100) → (T (not b) → P * 1000 ≤ 22064 * Q) → P ≤ 23 * Q → All O (near-lines b c d) → nearRule p t ≡ value
+        (near-letter p t below a b c d)
     by-ends a b c d ha hb hc hd f h m s =
         go a b ha hb f h
         (judge-all p P (g .p-f64) (g .whole-p) t n (g .whole-t) below (near-lines b c d) (near-ranges b c d m (λ k. le-trans (h k) (lit≤ tt))) s)
@@ -93,7 +94,8 @@ module _ (p t : Float) (g : Placed p t) where
         go true true ha hb f h k = near-22-11 p t below c d ha k
         go true false ha hb f h k = absurd (no-p Q (f tt) (h tt))
         go false true ha hb f h k = near-22-064 p t below c d ha hb k
-        go false false ha hb f h k = near-saturated p t below c d ha hb hc hd (accept (in-p uv) m) (accept line3wx (wx-range m)) (accept (in-p ef) (wide 23 40 m (lit≤ tt))) k
+        go false false ha hb f h k =
+            near-saturated p t below c d ha hb hc hd (accept (in-p uv) m) (accept line3wx (wx-range m)) (accept (in-p ef) (wide 23 40 m (lit≤ tt))) k
 
     away : Ends P → P ≤ 23 * Q → All O (nearLines P) → nearRule p t ≡ value (nearLetter below P)
     away ends m s =

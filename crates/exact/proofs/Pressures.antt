@@ -209,7 +209,8 @@ module _ (p : Float) (P : ℕ) (whole-p : HasValue p false P Q) where
   at-limit beyond s =
       let h = deep-side 80 (not beyond) s in
       let z = h .depth in
-      side-of p f64-limit P Q (limit z) 1 (10 ^ 13) 1 perMPa (pow-pos 48) (limit-in z (h .deep) .positive) (lit< tt) whole-p (limit-near z (h .deep)) (not beyond)
+      side-of p f64-limit P Q (limit z) 1 (10 ^ 13) 1 perMPa (pow-pos 48) (limit-in z (h .deep) .positive) (lit< tt) whole-p (limit-near z (h .deep))
+      (not beyond)
       (h .there) .beyond
       ∙ twice beyond
     where

@@ -1,5 +1,5 @@
--- The premises can be tested in f64: what lies two margins from a line as it is worked in f64 lies a margin from the exact line, on the same side. So a computed
--- test of two f64s gives the exact letter, with the sides read off the f64s. Assumes nothing.
+-- The premises can be tested in f64: what lies two margins from a line as it is worked in f64 lies a margin from the exact line, on the same side. So a
+-- computed test of two f64s gives the exact letter, with the sides read off the f64s. Assumes nothing.
 use mathlib.Core.Path.{_≡_, refl, sym, ap, _∙_, subst}
 use Prim.Native.Nat.{ℕ, _+_, _*_, _^_, _≤_, _<_}
 use native.Mathlib.Nat.{mul-le-mul-right, le-of-mul-le-mul-right}
@@ -32,7 +32,8 @@ use Rattle.exact.proofs.Border.{border-followed}
 use Rattle.exact.proofs.Whole.{in-range, exact-letter}
 
 -- u two below v, and v one from z: u one below z; the numbers are taken D times
-below-by : (uo uu us vo vu vs zo zu zs : ℕ) → 0 < vs → uo * vs + vu * us + 2 * (us * vs) ≤ vo * us + uu * vs → vo * zs + zu * vs ≤ zo * vs + vu * zs + 1 * (vs * zs)
+below-by : (uo uu us vo vu vs zo zu zs : ℕ) → 0 < vs → uo * vs + vu * us + 2 * (us * vs) ≤ vo * us + uu * vs
+    → vo * zs + zu * vs ≤ zo * vs + vu * zs + 1 * (vs * zs)
     → uo * zs + zu * us + 1 * (us * zs) ≤ zo * us + uu * zs
 below-by uo uu us vo vu vs zo zu zs P h g = le-of-mul-le-mul-right (go (mul-le-mul-right zs h) (mul-le-mul-right us g)) P
   where

@@ -1,5 +1,5 @@
--- What the sequences of the exact side are. A root cut off after n binary digits is at most the root, and one more in the last digit is above it. The n-th fraction
--- of ln p and every later one lie within 9^(1-n) of each other, so that they converge. Assumes nothing.
+-- What the sequences of the exact side are. A root cut off after n binary digits is at most the root, and one more in the last digit is above it. The n-th
+-- fraction of ln p and every later one lie within 9^(1-n) of each other, so that they converge. Assumes nothing.
 use mathlib.Core.Path.{_≡_, refl, sym, ap, _∙_, subst}
 use Prim.Native.Nat.{ℕ, zero, suc, _+_, _-_, _*_, _/_, _%_, _^_, _≤_, _<_}
 use native.Mathlib.Nat.{le-trans, le-of-lt, lt-of-not-le, lt-of-lt-of-le, le-add-right, mul-one, pow-succ', mul-le-mul-left, mul-le-mul-right, mul-lt-mul-of-pos-right, mul-comm, mul-pos, le-of-mul-le-mul-right, div-mul-le-self, div-add-mod', mod-lt}
@@ -114,7 +114,8 @@ product-arith A B S co cu cs a b m k X Y Z x y z h = rw (x, y, z) (last (co * A)
         → (co * A + cu * B) * (b * k) ≤ (co * B + cu * A) * (b * k) + a * m * (S * cs)
     first h = omega arith
 
-    last : (p q r s t : ℕ) → (p + q) * (b * k) * cs ≤ ((r + s) * (b * k) + t * (S * cs)) * cs → (p + q) * cs * (b * k) ≤ (r + s) * cs * (b * k) + t * (S * cs * cs)
+    last : (p q r s t : ℕ) → (p + q) * (b * k) * cs ≤ ((r + s) * (b * k) + t * (S * cs)) * cs
+        → (p + q) * cs * (b * k) ≤ (r + s) * cs * (b * k) + t * (S * cs * cs)
     last p q r s t h = omega arith
 
 within-product : (u v c : Fraction) (a b m k : ℕ) → Sized c m k → Within u v a b → Within (times u c) (times v c) (a * m) (b * k)
@@ -144,13 +145,12 @@ within-product u v c a b m k s h =
     rear : (p q r : ℕ) → Close p q 0 0 r → q ≤ p + r
     rear p q r h = omega arith
 
+pub same-fraction : {o o' u u' s s' : ℕ} → o ≡ o' → u ≡ u' → s ≡ s'
+    → _≡_ {A = Fraction} (record { over = o; under = u; scale = s }) (record { over = o'; under = u'; scale = s' })
+same-fraction e f g = rw (e, f, g)
+
 commuted : (u c : Fraction) → times u c ≡ times c u
-commuted u c =
-    ap (λ (z : ℕ). record { over = z; under = u .over * c .under + u .under * c .over; scale = u .scale * c .scale }) (overs (u .over) (u .under) (c .over) (c .under))
-    ∙ ap (λ (z : ℕ). record { over = c .over * u .over + c .under * u .under; under = z; scale = u .scale * c .scale })
-    (unders (u .over) (u .under) (c .over) (c .under))
-    ∙ ap (λ (z : ℕ). record { over = c .over * u .over + c .under * u .under; under = c .over * u .under + c .under * u .over; scale = z })
-    (mul-comm (u .scale) (c .scale))
+commuted u c = same-fraction (overs (u .over) (u .under) (c .over) (c .under)) (unders (u .over) (u .under) (c .over) (c .under)) (mul-comm (u .scale) (c .scale))
   where
     overs : (a b c d : ℕ) → a * c + b * d ≡ c * a + d * b
     overs a b c d = omega arith
@@ -181,7 +181,9 @@ sized-small y b s = record {
 
 module _ (y : Fraction) (d : ℕ) (sy : Small y 1 (d + 1)) where
   nothing-left : (j k : ℕ) → Within (nested j k y) (ratio 0 1) (d + 1) d
-  nothing-left j k = let s = nested-small y d sy j k in go (nested j k y .over) (nested j k y .under) (nested j k y .scale) (2 * k + 1) (odd k) (s .ordered) (s .most)
+  nothing-left j k =
+      let s = nested-small y d sy j k in
+      go (nested j k y .over) (nested j k y .under) (nested j k y .scale) (2 * k + 1) (odd k) (s .ordered) (s .most)
     where
       odd : (k : ℕ) → 1 ≤ 2 * k + 1
       odd k = omega arith
@@ -212,7 +214,8 @@ module _ (y : Fraction) (d : ℕ) (sy : Small y 1 (d + 1)) where
   left zero j k = nothing-left j k
   left (suc n) j k =
       subst (λ (a : ℕ). Within (nested (ups (suc n) j) k y) (nested (suc n) k y) a (depth d n * (d + 1))) (same d)
-      (within-sum (times (nested (ups n j) (suc k) y) y) (times (nested n (suc k) y) y) (ratio 1 (2 * k + 1)) (ratio 1 (2 * k + 1)) ((d + 1) * 1) 0 (depth d n * (d + 1))
+      (within-sum (times (nested (ups n j) (suc k) y) y) (times (nested n (suc k) y) y) (ratio 1 (2 * k + 1)) (ratio 1 (2 * k + 1)) ((d + 1) * 1) 0
+      (depth d n * (d + 1))
       (within-product (nested (ups n j) (suc k) y) (nested n (suc k) y) y (d + 1) (depth d n) 1 (d + 1) (sized-small y (d + 1) sy) (left n j (suc k)))
       (itself (2 * k + 1) (depth d n * (d + 1))))
     where
@@ -285,7 +288,9 @@ argument-third P W w l h = subst Third (sym is) facts
     nothing W X = omega arith
 
     is : argument (ratio P W) ≡ divided true difference total
-    is = ap (λ (b : Bool). divided b difference total) (is-true (leb (total .under) (total .over)) (le→leb (total .under) (total .over) (nothing W (total .over))))
+    is =
+        ap (λ (b : Bool). divided b difference total)
+        (is-true (leb (total .under) (total .over)) (le→leb (total .under) (total .over) (nothing W (total .over))))
 
     scale-is : total .over - total .under ≡ P + W
     scale-is = go P W
@@ -345,7 +350,9 @@ ln-by-left n j e P l t =
         none e = omega arith
 
     coarse : (X Y S D N : ℕ) → D ≡ 8 * N → X * (D * 1 * 1) ≤ Y * (D * 1 * 1) + (9 * 1 * e + 9 * 1) * S → X * N ≤ Y * N + 9 * S
-    coarse X Y S D N d h = le-of-mul-le-mul-right (go (subst (λ (D : ℕ). X * (D * 1 * 1) ≤ Y * (D * 1 * 1) + (9 * 1 * e + 9 * 1) * S) d h) (mul-le-mul-right S l)) (lit< {m = 0} {n = 8} tt)
+    coarse X Y S D N d h =
+        le-of-mul-le-mul-right (go (subst (λ (D : ℕ). X * (D * 1 * 1) ≤ Y * (D * 1 * 1) + (9 * 1 * e + 9 * 1) * S) d h) (mul-le-mul-right S l))
+        (lit< {m = 0} {n = 8} tt)
       where
         go : X * (8 * N * 1 * 1) ≤ Y * (8 * N * 1 * 1) + (9 * 1 * e + 9 * 1) * S → e * S ≤ 7 * S → X * N * 8 ≤ (Y * N + 9 * S) * 8
         go h k = omega arith
