@@ -6,7 +6,7 @@ use native.Mathlib.Nat.{le-trans, lt-of-le-of-lt, mul-le-mul-right}
 use native.Mathlib.Omega.{arith}
 use native.Mathlib.Decide.{ℕ-discrete}
 use mathlib.Core.Bool.{Bool, true, false, not, cond, true≢false}
-use mathlib.Core.List.{List, [], _∷_, _++_}
+use mathlib.Core.List.{[], _∷_}
 use lib.Dec.{T, ltb, lit<, lit≤}
 use lib.Ieee.{Float, binary64, fits, le, lt, ofBits, round}
 use lib.Ieee.Exact.{HasValue}
@@ -14,7 +14,7 @@ use lib.Ieee.Positive.{le-trans-positive}
 use Rattle.common.specs.Outcome.{Outcome, value, valueIn}
 use Rattle.common.specs.Decimal.{decimal, scaled}
 use Rattle.rules.proofs.Fields.{same}
-use Rattle.rounding.specs.Fraction.{Fraction, Near, scaledBy}
+use Rattle.rounding.specs.Fraction.{Near, scaledBy}
 use Rattle.rounding.proofs.Whole.{value-scale}
 use Rattle.subregion.specs.declared.Letter.{Letter}
 use Rattle.subregion.specs.declared.Letter.the-variants as letters

@@ -9,7 +9,7 @@ use lib.Ieee.{Float, binary64, fits, le, round}
 use lib.Ieee.Bits.{is-true}
 use lib.Ieee.Exact.{HasValue}
 use lib.Ieee.Positive.{positive, between, values-of-le}
-use Rattle.common.specs.Outcome.{Outcome, value, finite}
+use Rattle.common.specs.Outcome.{value, finite}
 use Rattle.common.specs.Decimal.{whole, decimal, scaled}
 use Rattle.common.specs.Constant.{P-FROM, P-TO, T-FROM, T-TO}
 use Rattle.common.specs.Range.{pTBox}

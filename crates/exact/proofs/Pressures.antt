@@ -2,18 +2,18 @@
 -- p_saturation(643.15). Assumes nothing.
 use mathlib.Core.Path.{_≡_, refl, sym, ap, _∙_}
 use mathlib.Core.Logic.{_⊎_, inl, inr}
-use Prim.Native.Nat.{ℕ, _+_, _*_, _/_, _^_, _≤_, _<_}
+use Prim.Native.Nat.{ℕ, _+_, _*_, _^_, _≤_, _<_}
 use native.Mathlib.Nat.{le-trans, lt-of-lt-of-le, lt-of-le-of-lt, mul-le-mul-right, mul-lt-mul-of-pos-right, eq-or-lt-of-le}
 use native.Mathlib.Omega.{arith}
 use mathlib.Core.Bool.{Bool, true, false, not}
 use lib.Dec.{T, leb, ltb, leb→le, le→leb, nleb→lt, nltb→le, lt→ltb, ltb→lt, lit<, lit≤}
 use lib.Arith.{le→nltb, lt→nleb}
 use lib.Pow.{pow-pos}
-use lib.Ieee.{Float, binary64, lt, ofBits, round}
+use lib.Ieee.{Float, lt, ofBits, round}
 use lib.Ieee.Bits.{is-true, is-false}
 use lib.Ieee.Exact.{HasValue}
 use Rattle.common.specs.Decimal.{whole, decimal, scaled}
-use Rattle.rounding.specs.Fraction.{ratio, scaledBy}
+use Rattle.rounding.specs.Fraction.{scaledBy}
 use Rattle.rounding.proofs.Compare.{lt-values, side-of}
 use Rattle.distance.specs.Exact.{Q}
 use Rattle.exact_lines.specs.Saturation.{limit}

@@ -1,19 +1,18 @@
 -- The premises can be tested in f64: what lies two margins from a line as it is worked in f64 lies a margin from the exact line, on the same side. So a
 -- computed test of two f64s gives the exact letter, with the sides read off the f64s. Assumes nothing.
-use mathlib.Core.Path.{_≡_, refl, sym, ap, _∙_, subst}
+use mathlib.Core.Path.{_≡_, sym, ap, subst}
 use Prim.Native.Nat.{ℕ, _+_, _*_, _^_, _≤_, _<_}
 use native.Mathlib.Nat.{mul-le-mul-right, le-of-mul-le-mul-right}
 use native.Mathlib.Omega.{arith}
 use mathlib.Core.Bool.{Bool, true, false, not, _&&_}
 use mathlib.Core.List.{List, [], _∷_}
-use lib.IntN.{ℤ}
 use lib.Dec.{T, leb, leb→le, lit<, lit≤}
-use lib.Ieee.{Float, nan, inf, fin, up, down, le, lt, ofBits}
+use lib.Ieee.{Float, nan, inf, fin, up, down, le, lt}
 use lib.Ieee.Fits.{down-pos, and-l, and-r}
 use Rattle.common.specs.Outcome.{Outcome, value, valueIn}
 use Rattle.common.specs.Sum.{every}
 use Rattle.common.proofs.Sums.{both-left, both-right}
-use Rattle.rounding.specs.Fraction.{Fraction, ratio, signed, side, Under, Within, Near, scaledBy}
+use Rattle.rounding.specs.Fraction.{Fraction, ratio, signed, side, Near, scaledBy}
 use Rattle.border.specs.Border.{B23-p2T}
 use Rattle.subregion.specs.declared.Letter.{Letter}
 use Rattle.boundary.specs.Choice.{letterRule}

@@ -24,7 +24,6 @@ use Rattle.boundary.specs.Choice.{letterRule}
 use Rattle.distance.specs.Letter.{All}
 use Rattle.exact_lines.specs.Letter.{exactBand, exactLetter}
 use Rattle.exact_lines.proofs.Published.{Point, at}
-use Rattle.exact.specs.Premises.{InBox}
 use Rattle.exact.proofs.Tested.{f64-test, letter-f64, tested}
 
 -- what holds of a list, from a test of each

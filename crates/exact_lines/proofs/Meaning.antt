@@ -2,7 +2,7 @@
 -- fraction of ln p and every later one lie within 9^(1-n) of each other, so that they converge. Assumes nothing.
 use mathlib.Core.Path.{_≡_, refl, sym, ap, _∙_, subst}
 use Prim.Native.Nat.{ℕ, zero, suc, _+_, _-_, _*_, _/_, _%_, _^_, _≤_, _<_}
-use native.Mathlib.Nat.{le-trans, le-of-lt, lt-of-not-le, lt-of-lt-of-le, le-add-right, mul-one, pow-succ', mul-le-mul-left, mul-le-mul-right, mul-lt-mul-of-pos-right, mul-comm, mul-pos, le-of-mul-le-mul-right, div-mul-le-self, div-add-mod', mod-lt}
+use native.Mathlib.Nat.{le-trans, le-of-lt, lt-of-not-le, lt-of-lt-of-le, le-add-right, mul-one, pow-succ', mul-le-mul-left, mul-le-mul-right, mul-comm, mul-pos, le-of-mul-le-mul-right, div-mul-le-self, div-add-mod', mod-lt}
 use native.Mathlib.Omega.{arith}
 use native.Mathlib.Decide.{decLe}
 use mathlib.Core.Bool.{Bool, true, false, not, cond}

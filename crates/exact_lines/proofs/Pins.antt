@@ -1,8 +1,8 @@
 -- The printed decimals of the exact side, each rounded once, are the f64s that the calls use, row by row: so both sides have the same digits, and those of the
 -- calls are the Rust's (printed_lines/proofs/Pins, r4/proofs/Pins). Two decimals of 14 or 15 digits never round to one f64. Assumes nothing.
 use mathlib.Core.Path.{_≡_, refl}
-use Prim.Native.Nat.{ℕ, _+_}
-use mathlib.Core.List.{List, [], _∷_, map}
+use Prim.Native.Nat.{_+_}
+use mathlib.Core.List.{[], _∷_, map}
 use lib.Dec.{ltb}
 use lib.Ieee.{Float, binary64, round}
 use Rattle.common.specs.Outcome.{orNan}

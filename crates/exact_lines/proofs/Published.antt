@@ -20,7 +20,7 @@ use Rattle.exact_lines.specs.Logarithm.{ln, nested}
 use Rattle.exact_lines.specs.Line.{logarithmic, exact3ab, exact3op, exact3wx}
 use Rattle.exact_lines.specs.Saturation.{saturation, limit}
 use Rattle.exact_lines.specs.Border.{border}
-use Rattle.exact_lines.specs.Letter.{Line, in-p, line3ab, line3op, line3wx, saturationLine, lineAt, exactBand, exactLetter}
+use Rattle.exact_lines.specs.Letter.{in-p, line3ab, line3op, line3wx, saturationLine, lineAt, exactBand, exactLetter}
 
 -- ---- the lines
 pub record Value : Type 0 where
