@@ -110,7 +110,7 @@ module _ (p t : Float) where
   unfolding letterRule
   passed-not e = subst NotEight (sym (ap (λ (o : Outcome Unit). then o (λ _. letterAt p t)) e)) choice-not
 
-  stopped : region3Box p t ≡ refused 8 → letterRule p t ≡ refused 8
+  pub stopped : region3Box p t ≡ refused 8 → letterRule p t ≡ refused 8
   unfolding letterRule
   stopped e = ap (λ (o : Outcome Unit). then o (λ _. letterAt p t)) e
 
