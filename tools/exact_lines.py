@@ -2,7 +2,7 @@
 
 The decimals are read from the definitions, crates/distance/specs/Exact and crates/exact_lines/specs. In f64 the order of operations is that of the
 definitions, with the logarithm of rules_rows.py. Exactly is in whole numbers of 2^-200: products, quotients and roots are cut off there, and the
-logarithm's series, 2 (z + z^3/3 + ..) with z of at most 1/5, goes on until its terms are 0 there, so that less than two units are left out of it.
+logarithm's series, 2 (z + z^3/3 + ..) with z of at most 1/3, goes on until its terms are 0 there, so that less than two units are left out of it.
 Each of at most 200 steps loses less than 50 units, and a line turns a unit into less than 2^30: what is lost is below 2^-150 K.
 """
 import math

@@ -11,6 +11,7 @@ use borrow.Fn.Kinds.{Dens, endedOf, resT}
 use Rattle.common.specs.Outcome.{Outcome, value, refused, check, then, orNan}
 use Rattle.common.specs.Decimal.{decimal}
 use Rattle.common.specs.Answer.{numberOf, paperVerdict}
+use Rattle.common.proofs.Calls.{no-value}
 use Rattle.common.specs.declared.Refusal.{Refusal}
 use Rattle.common.specs.declared.Refusal.the-variants.{NotFinite, First, Second, State, Step, Property, Columns, Border, Unfound}
 use Rattle.common.specs.declared.Verdict.{Verdict}
@@ -47,9 +48,6 @@ NotEight {A} o = _≡_ {A = Outcome A} o (refused 8) → ⊥
 refused-same : {A : Type 0} {j k : ℕ} → _≡_ {A = Outcome A} (refused j) (refused k) → j ≡ k
 refused-same e = cc
 
-never : {A : Type 0} (x : A) (k : ℕ) → _≡_ {A = Outcome A} (value x) (refused k) → ⊥
-never x k e = let z : _≡_ {A = ℕ} 0 1 = cc in omega arith
-
 then-not : {A B : Type 0} (o : Outcome A) (f : A → Outcome B) → NotEight o → ((x : A) → NotEight (f x)) → NotEight (then o f)
 then-not (value x) f h k e = k x e
 then-not (refused j) f h k e = h (ap refused (refused-same e))
@@ -60,7 +58,7 @@ five-not e = let z : _≡_ {A = ℕ} 5 8 = refused-same e in omega arith
 check-not : (x : Float) → NotEight (check x)
 check-not nan e = five-not e
 check-not (inf s) e = five-not e
-check-not (fin s m d) e = never (fin s m d) 8 e
+check-not (fin s m d) e = no-value (sym e)
 
 form-not : (g : Form) (p : Float) → NotEight (formRule g p)
 form-not (tabled k) p = subst NotEight (by-row k p (rawTabled k p) refl) (check-not (rawTabled k p))
@@ -78,7 +76,7 @@ module _ (p t : Float) where
   either false h k = k
 
   letter : (l : Letter) → NotEight (value l)
-  letter l e = never l 8 e
+  letter l e = no-value (sym e)
 
   near-not : NotEight (nearRule p t)
   unfolding nearRule
@@ -103,14 +101,14 @@ module _ (p t : Float) where
 
   choice-not : NotEight (letterAt p t)
   unfolding letterAt
-  choice-not = then-not limit _ (subst NotEight (sym limit-is) (λ e. never _ 8 e)) (λ l. band-not (bandOf l p))
+  choice-not = then-not limit _ (subst NotEight (sym limit-is) (λ e. no-value (sym e))) (λ l. band-not (bandOf l p))
 
   -- a letter, or a refusal with another number, where the border lets T pass
   pub passed-not : region3Box p t ≡ value tt → NotEight (letterRule p t)
   unfolding letterRule
   passed-not e = subst NotEight (sym (ap (λ (o : Outcome Unit). then o (λ _. letterAt p t)) e)) choice-not
 
-  stopped : region3Box p t ≡ refused 8 → letterRule p t ≡ refused 8
+  pub stopped : region3Box p t ≡ refused 8 → letterRule p t ≡ refused 8
   unfolding letterRule
   stopped e = ap (λ (o : Outcome Unit). then o (λ _. letterAt p t)) e
 
@@ -128,14 +126,14 @@ eight-is Unfound e = absurd (omega arith)
 
 verdict-accepted : (r : Verdict) → paperVerdict r ≡ value tt → r ≡ verdicts.Accepted
 verdict-accepted verdicts.Accepted e = refl
-verdict-accepted (verdicts.Refused k) e = absurd (never tt (numberOf k) (sym e))
+verdict-accepted (verdicts.Refused k) e = absurd (no-value e)
 
 verdict-refused : (r : Verdict) → paperVerdict r ≡ refused 8 → r ≡ verdicts.Refused Border
-verdict-refused verdicts.Accepted e = absurd (never tt 8 e)
+verdict-refused verdicts.Accepted e = absurd (no-value (sym e))
 verdict-refused (verdicts.Refused k) e = ap verdicts.Refused (eight-is k (refused-same e))
 
 letter-refused : (r : LetterAnswer) → paperLetter r ≡ refused 8 → r ≡ Refused Border
-letter-refused (Value l) e = absurd (never l 8 e)
+letter-refused (Value l) e = absurd (no-value (sym e))
 letter-refused (Refused k) e = ap Refused (eight-is k (refused-same e))
 
 -- ---- `check_region3`

@@ -30,7 +30,8 @@ use Rattle.exact.specs.Premises.{Off}
 use Rattle.rounding.proofs.Compare.{Sided}
 use Rattle.exact.proofs.Judged.{InRange, Judged, Followed, reach, scale-positive, followed, judge-by, judge, judge-all}
 use Rattle.exact.proofs.Placed.{Placed}
-use Rattle.exact.proofs.Pressures.{lt-is, yes-above, not-above, exact-22-11, exact-22-064, exact-21-9316, exact-21-9010, Ends, at-22-11, at-22-064, at-21-9316, at-21-9010}
+use Rattle.exact.proofs.Pressures.{lt-is, yes-above, not-above, exact-22-11, exact-22-064, exact-21-9316, exact-21-9010, Ends, at-22-11, at-22-064}
+use Rattle.exact.proofs.Pressures.{at-21-9316, at-21-9010}
 use Rattle.exact.proofs.BandLetters.{Accepted, near-lines, near-letter, near-22-11, near-22-064, near-saturated}
 use Rattle.exact.proofs.Meetings.{p1, p2, p3, sat1, sat2, sat3, uv1, ef1, wx3, S1, S2, S3, U1, E1, W3, near1, near2, near3, order1}
 

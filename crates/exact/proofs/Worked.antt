@@ -89,11 +89,13 @@ abbrev Got : Point → Type 0
 Got x = letterRule (x .p) (x .t) ≡ value (x .letter)
 
 tests : T (every point-test points)
-unfolding points every B23-p2T T-saturation walkRule rowAt table straight3ef total powerRule rootRule nearestRoot wholeRoot logarithmRule lnOf lnSteps L inUnits exactBand scaledBy plus minus scaled decimal whole ofBits ofInt round neg add sub sum mul div fits le lt eq
+unfolding points every B23-p2T T-saturation walkRule rowAt table straight3ef total powerRule rootRule nearestRoot wholeRoot logarithmRule lnOf lnSteps L
+    inUnits exactBand scaledBy plus minus scaled decimal whole ofBits ofInt round neg add sub sum mul div fits le lt eq
 tests = tt
 
 letters-are : map (λ x. letter-f64 (x .p) (x .t)) points ≡ map (λ x. x .letter) points
-unfolding points B23-p2T T-saturation walkRule rowAt table straight3ef total powerRule rootRule nearestRoot wholeRoot logarithmRule lnOf lnSteps L inUnits exactLetter exactBand scaledBy plus minus scaled decimal whole ofBits ofInt round neg add sub sum mul div le lt
+unfolding points B23-p2T T-saturation walkRule rowAt table straight3ef total powerRule rootRule nearestRoot wholeRoot logarithmRule lnOf lnSteps L inUnits
+    exactLetter exactBand scaledBy plus minus scaled decimal whole ofBits ofInt round neg add sub sum mul div le lt
 letters-are = refl
 
 pub worked : All Got points

@@ -2,7 +2,8 @@
 -- fraction of ln p and every later one lie within 9^(1-n) of each other, so that they converge. Assumes nothing.
 use mathlib.Core.Path.{_≡_, refl, sym, ap, _∙_, subst}
 use Prim.Native.Nat.{ℕ, zero, suc, _+_, _-_, _*_, _/_, _%_, _^_, _≤_, _<_}
-use native.Mathlib.Nat.{le-trans, le-of-lt, lt-of-not-le, lt-of-lt-of-le, le-add-right, mul-one, pow-succ', mul-le-mul-left, mul-le-mul-right, mul-comm, mul-pos, le-of-mul-le-mul-right, div-mul-le-self, div-add-mod', mod-lt}
+use native.Mathlib.Nat.{le-trans, le-of-lt, lt-of-not-le, lt-of-lt-of-le, le-add-right, mul-one, pow-succ', mul-le-mul-left, mul-le-mul-right, mul-comm}
+use native.Mathlib.Nat.{mul-pos, le-of-mul-le-mul-right, div-mul-le-self, div-add-mod', mod-lt}
 use native.Mathlib.Omega.{arith}
 use native.Mathlib.Decide.{decLe}
 use mathlib.Core.Bool.{Bool, true, false, not, cond}
@@ -150,7 +151,8 @@ pub same-fraction : {o o' u u' s s' : ℕ} → o ≡ o' → u ≡ u' → s ≡ s
 same-fraction e f g = rw (e, f, g)
 
 commuted : (u c : Fraction) → times u c ≡ times c u
-commuted u c = same-fraction (overs (u .over) (u .under) (c .over) (c .under)) (unders (u .over) (u .under) (c .over) (c .under)) (mul-comm (u .scale) (c .scale))
+commuted u c =
+    same-fraction (overs (u .over) (u .under) (c .over) (c .under)) (unders (u .over) (u .under) (c .over) (c .under)) (mul-comm (u .scale) (c .scale))
   where
     overs : (a b c d : ℕ) → a * c + b * d ≡ c * a + d * b
     overs a b c d = omega arith

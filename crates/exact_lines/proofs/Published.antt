@@ -161,9 +161,11 @@ exactAt x =
     exactLetter (not (atMost (ratio P Q) (limit 60))) (λ b. atMost (kelvin (scaledBy 43 (x .t))) (lineAt b P 30)) P
 
 pub published-letters : map exactAt published ≡ map (λ x. x .letter) published
-unfolding published exactLetter exactBand lineAt temperature sumOver logarithmic exact3ab exact3op exact3wx ln nested saturation limit rootAt wholeRoot size scaledBy scaled round decimal whole
+unfolding published exactLetter exactBand lineAt temperature sumOver logarithmic exact3ab exact3op exact3wx ln nested saturation limit rootAt wholeRoot size
+    scaledBy scaled round decimal whole
 published-letters = refl
 
 pub further-letters : map exactAt further ≡ map (λ x. x .letter) further
-unfolding further exactLetter exactBand lineAt temperature sumOver logarithmic exact3ab exact3op exact3wx ln nested saturation limit rootAt wholeRoot size scaledBy scaled round decimal whole
+unfolding further exactLetter exactBand lineAt temperature sumOver logarithmic exact3ab exact3op exact3wx ln nested saturation limit rootAt wholeRoot size
+    scaledBy scaled round decimal whole
 further-letters = refl
