@@ -1,5 +1,5 @@
--- How far each line that is no polynomial in p may lie in f64 from the exact one: in units of 1 / unit K, as in crate distance, so that 29 is 2.9e-12 K.
--- Assumes nothing: these are definitions.
+-- To believe: how far each line that is no polynomial in p may lie in f64 from the exact one, in units of 1 / unit K, as in crate distance, so that 29 is
+-- 2.9e-12 K. Assumes nothing: these are definitions.
 use Prim.Native.Nat.{ℕ, _≤_}
 use lib.Ieee.{Float}
 use Rattle.common.specs.Outcome.{Outcome, value, refused}

@@ -1,5 +1,5 @@
 -- The exact definitions give what the documents publish: the check values of the lines to the digits printed, and at the check points of the volume equations
--- the letter under which these are printed; and the letters at sixteen points more, worked a second time with 40 digits (mpmath), so that each letter of each
+-- the letter under which these are printed; and the letters at seventeen points more, worked a second time with 40 digits, so that each letter of each
 -- band has one. Logarithms by 30 terms, roots by 60 binary digits. Computed. Assumes nothing.
 use mathlib.Core.Path.{_≡_, refl}
 use Prim.Native.Nat.{ℕ, _+_, _*_, _/_, _^_}
@@ -142,6 +142,7 @@ further =
     ∷ at (decimal 20_8 1) (whole 650) letters.K
     ∷ at (whole 17) (whole 624) letters.C
     ∷ at (whole 20) (whole 625) letters.C
+    ∷ at (whole 24) (whole 640) letters.C
     ∷ at (decimal 23_2 1) (whole 640) letters.C
     ∷ at (decimal 23_2 1) (whole 648) letters.L
     ∷ at (decimal 23_2 1) (whole 651) letters.H
