@@ -58,7 +58,8 @@ abbrev off : Polynomial → ℕ → ℕ → Bool
 off b P n =
     let x = kelvin n in
     let y = temperature b P in
-    leb (side x y * tolerance + 1 * (x .scale * y .scale)) (side y x * tolerance) || leb (side y x * tolerance + 1 * (y .scale * x .scale)) (side x y * tolerance)
+    leb (side x y * tolerance + 1 * (x .scale * y .scale)) (side y x * tolerance)
+    || leb (side y x * tolerance + 1 * (y .scale * x .scale)) (side x y * tolerance)
 
 off→ : (b : Polynomial) (P n : ℕ) → T (off b P n) → Off b P n
 off→ b P n t =
@@ -97,10 +98,19 @@ met x h =
     let o = every (λ b. off b P n) five in
     let e = all-of (λ b. b) T (λ b t. t) (placed (x .p) (x .t)) (and-l a o h) in
     record {
-      inside = record { p-f64 = e .0; t-f64 = e .1 .0; p-above = e .1 .1 .0; p-upto = e .1 .1 .1 .0; t-from = e .1 .1 .1 .1 .0; t-to = e .1 .1 .1 .1 .1 .0; t-border = e .1 .1 .1 .1 .1 .1 .0 };
+      inside = record {
+        p-f64 = e .0;
+        t-f64 = e .1 .0;
+        p-above = e .1 .1 .0;
+        p-upto = e .1 .1 .1 .0;
+        t-from = e .1 .1 .1 .1 .0;
+        t-to = e .1 .1 .1 .1 .1 .0;
+        t-border = e .1 .1 .1 .1 .1 .1 .0;
+      };
       clear = all-of (λ b. off b P n) (λ b. Off b P n) (λ b t. off→ b P n t) five (and-r a o h);
     }
 
 pub points-met : All Met points
-unfolding points every temperature sumOver scaledBy B23-p2TRule B23-p2T rootRule nearestRoot wholeRoot inUnits whole decimal plus scaled round neg add sub sum div fits lt le eq
+unfolding points every temperature sumOver scaledBy B23-p2TRule B23-p2T rootRule nearestRoot wholeRoot inUnits whole decimal plus scaled round neg add sub sum
+    div fits lt le eq
 points-met = all-of meets Met met points tt
