@@ -43,10 +43,10 @@ module _ (p t : Float) (g : Placed p t) where
   n = scaledBy 43 t
 
   -- ---- where the lines are compared
-  wide : (a b : ℕ) → P ≤ a * Q → a ≤ b → P ≤ b * Q
+  pub wide : (a b : ℕ) → P ≤ a * Q → a ≤ b → P ≤ b * Q
   wide a b h l = le-trans h (mul-le-mul-right Q l)
 
-  wx-range : P ≤ 23 * Q → InRange P line3wx
+  pub wx-range : P ≤ 23 * Q → InRange P line3wx
   wx-range m = (more Q (g .from-16), lt-of-le-of-lt m (lit< tt))
     where
       more : (Q : ℕ) → 16528 * Q < P * 1000 → 16 * Q ≤ P
@@ -68,6 +68,9 @@ module _ (p t : Float) (g : Placed p t) where
   pub near-in-range : P ≤ 23 * Q → All (InRange P) (nearLines P)
   near-in-range m = near-ranges (above P 22_064 1000) (above P 21_93161551 (10 ^ 8)) (above P 21_90096265 (10 ^ 8)) m low
 
+  pub accept : (b : Line) → InRange P b → Accepted p b
+  accept b r = let f = followed p P (g .p-f64) (g .whole-p) b r in record { number = f .number; is = f .is }
+
   -- ---- the letter
   module _ (below : Line → Bool) where
     abbrev O : Line → Type 0
@@ -75,9 +78,6 @@ module _ (p t : Float) (g : Placed p t) where
 
     j : (b : Line) → InRange P b → O b → Judged p t b (below b)
     j b r s = judge p P (g .p-f64) (g .whole-p) t n (g .whole-t) b r (below b) s
-
-    accept : (b : Line) → InRange P b → Accepted p b
-    accept b r = let f = followed p P (g .p-f64) (g .whole-p) b r in record { number = f .number; is = f .is }
 
     -- by what p is above; 22.11 < p ≤ 22.064 is no pressure
     by-ends : (a b c d : Bool) → lt (decimal 22_11 2) p ≡ a → lt (decimal 22_064 3) p ≡ b → lt (decimal 21_93161551 8) p ≡ c → lt (decimal 21_90096265 8) p ≡ d

@@ -1,6 +1,6 @@
 -- The premises can be tested in f64: what lies two margins from a line as it is worked in f64 lies a margin from the exact line, on the same side. So a
 -- computed test of two f64s gives the exact letter, with the sides read off the f64s. Assumes nothing.
-use mathlib.Core.Path.{_≡_, sym, ap, subst}
+use mathlib.Core.Path.{_≡_, refl, sym, ap, subst}
 use Prim.Native.Nat.{ℕ, _+_, _*_, _^_, _≤_, _<_}
 use native.Mathlib.Nat.{mul-le-mul-right, le-of-mul-le-mul-right}
 use native.Mathlib.Omega.{arith}
@@ -159,7 +159,7 @@ module _ (p t : Float) (i : InBox p t) where
         box = i;
         border = from-f64 (lit< tt) (lit≤ tt) (border-followed p t i) true (and-l (border-test p t) (pressure-test p) two);
         pressure = off-limit;
-        lines = all-off (lines-f64 p) (in-range p t (placed p t i) (beyond-f64 p) off-limit)
+        lines = all-off (lines-f64 p) (in-range p t (placed p t i) (beyond-f64 p) refl)
             (and-r (border-test p t && pressure-test p) (every (line-test p t) (lines-f64 p)) h);
       }
 

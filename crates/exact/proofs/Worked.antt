@@ -22,15 +22,10 @@ use Rattle.rounding.specs.Fraction.{scaledBy}
 use Rattle.subregion.specs.declared.Letter.the-variants as letters
 use Rattle.boundary.specs.Choice.{letterRule}
 use Rattle.distance.specs.Letter.{All}
+use Rattle.distance.proofs.Lists.{all-of}
 use Rattle.exact_lines.specs.Letter.{exactBand, exactLetter}
 use Rattle.exact_lines.proofs.Published.{Point, at}
 use Rattle.exact.proofs.Tested.{f64-test, letter-f64, tested}
-
--- what holds of a list, from a test of each
-all-of : {A : Type 0} (f : A → Bool) (F : A → Type 0) → ((x : A) → T (f x) → F x) → (xs : List A) → T (every f xs) → All F xs
-unfolding every
-all-of f F h [] t = tt
-all-of f F h (x ∷ xs) t = (h x (both-left (f x) (every f xs) t), all-of f F h xs (both-right (f x) (every f xs) t))
 
 -- two lists that are one are so element by element
 headOr : {B : Type 0} → B → List B → B
