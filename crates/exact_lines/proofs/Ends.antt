@@ -1,4 +1,4 @@
--- The ends of the bands, S05rev, tables 1 and 10: at the last P / 2^48 that is not above a printed pressure the letter is that of the lower band, and at the
+-- The ends of the bands, S05rev: at the last P / 2^48 that is not above a printed pressure the letter is that of the lower band, and at the
 -- next that of the upper, with T below given lines and above the others. Computed. Assumes nothing.
 use mathlib.Core.Path.{_≡_, refl}
 use Prim.Native.Nat.{ℕ, _+_, _*_, _/_, _^_}

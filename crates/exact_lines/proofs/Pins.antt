@@ -21,7 +21,7 @@ rounded x = round binary64 (ltb 0 (x .under)) (x .over + x .under) (x .scale)
 abbrev pub rounded-term : Row → Term
 rounded-term r = term (r .power) (rounded (printed r))
 
--- S05rev, table 2
+-- S05rev, equation 2
 pub pinned-3ab : rowAt 0 ≡ row inLn (map rounded-term exact3ab)
 unfolding rowAt table exact3ab plus minus scaled
 pinned-3ab = refl
