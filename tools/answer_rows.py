@@ -4,7 +4,7 @@ one to the other, byte for byte. Nothing of the port is read.
 
 `answers` has every stored row: those of the four written rules with the answers of rules_rows.py; those of tools/oracle (its edges and random
 rows), of named-rows.tsv and of the published check values (tools/published), with the oracle's answers; and at the end 23 bytes of a row, which
-are not answered. `exported_calls` has a few of them for each exported function, and calls of the column run on columns of given lengths.
+are not answered. `exported_calls` has a few of them for each exported function, some by a number that names none, and calls of the column run on columns of given lengths.
 """
 import importlib.machinery
 import importlib.util
@@ -81,6 +81,16 @@ def exported(stored):
     return out
 
 
+# Numbers that name no exported function, between and beside the others: `exported_calls` takes them for 25, a property by its number.
+NONE = (0, 7, 9, 17, 29, 32, 33, 38, 255)
+
+
+def unnamed(program):
+    """The entropy at T = 650 and d = 500 by each of them."""
+    [record] = answered(program, [struct.pack("<B3xidd", 25, 5, 650.0, 500.0)])
+    return [bytes((entry,)) + record[1:] for entry in NONE]
+
+
 # Each of the five columns a row shorter and a row longer than the others, equal ones, and none.
 LENGTHS = [[4 + (by if k == which else 0) for k in range(5)] for by in (-1, 1) for which in range(5)] + [[4] * 5, [0] * 5]
 FOUND_BYTE, FOUND = 90, -90.5  # what the cells hold before the call
@@ -114,7 +124,7 @@ def main():
     program = script("compare").build_oracle()
     rules, fresh = rules_rows.records(), records(program)
     store("answers", rules + fresh, rules[0][:ROW - 1])
-    store("exported_calls", exported(fresh) + lent(program))
+    store("exported_calls", exported(fresh) + unnamed(program) + lent(program))
 
 
 if __name__ == "__main__":

@@ -1,5 +1,6 @@
--- The points of the exchange record (docs/SCOPE.md), worked out from the grammar and the refusals in one statement, and two that a rule read in another way
--- would answer otherwise: skipped tags of any length anywhere, and a NaN, which is the entry's matter. Worked out by antt. Assumes nothing.
+-- The points of the exchange record (docs/SCOPE.md), worked out from the grammar and the refusals in one statement, and some that a rule read in another way
+-- would answer otherwise: skipped tags of any length anywhere, a tag that is not above the last known one, a skipped field between them, and a NaN, which is the
+-- entry's matter. Worked out by antt. Assumes nothing.
 use mathlib.Core.Path.{_≡_, refl}
 use mathlib.Core.List.{List, [], _∷_, _++_}
 use Prim.Native.Nat.{ℕ, suc}
@@ -25,6 +26,10 @@ d-field = 3 ∷ 0 ∷ 8 ∷ 64 ∷ 121 ∷ 0 ∷ 0 ∷ 0 ∷ 0 ∷ 0 ∷ 0 ∷ [
 
 abbrev pub h-field : List ℕ
 h-field = 4 ∷ 0 ∷ 8 ∷ 64 ∷ 159 ∷ 64 ∷ 0 ∷ 0 ∷ 0 ∷ 0 ∷ 0 ∷ []
+
+-- one whose tag is larger than any known one
+abbrev pub skipped-field : List ℕ
+skipped-field = 200 ∷ 0 ∷ 2 ∷ 97 ∷ 98 ∷ []
 
 abbrev pub p-NaN : List ℕ
 p-NaN = 1 ∷ 0 ∷ 8 ∷ 127 ∷ 248 ∷ 0 ∷ 0 ∷ 0 ∷ 0 ∷ 0 ∷ 0 ∷ []
@@ -60,6 +65,10 @@ table =
     row (p-field ++ (1 ∷ 0 ∷ 3 ∷ 0 ∷ 0 ∷ 0 ∷ [])) (refused 12) ∷
     row (p-field ++ p-field) (refused 13) ∷
     row (T-field ++ p-field) (refused 13) ∷
+    row (p-field ++ skipped-field ++ p-field) (refused 13) ∷
+    row (T-field ++ skipped-field ++ p-field) (refused 13) ∷
+    row (p-field ++ T-field ++ skipped-field ++ T-field) (refused 13) ∷
+    row (p-field ++ T-field ++ d-field ++ skipped-field ++ d-field) (refused 13) ∷
     row (p-NaN ++ T-field) (value (record { pair = PT; a = 0x7ff8_0000_0000_0000; b = 0x4084_5000_0000_0000 })) ∷
     row (p-18 ++ T-640) (value (record { pair = PT; a = 0x4032_0000_0000_0000; b = 0x4084_0000_0000_0000 })) ∷
     []
@@ -80,7 +89,7 @@ holds (row s o ∷ rs) d = (rw (d .0) at (decided-means s), holds rs (d .1))
 
 all-decided : Decided table
 unfolding Decided decided onFront onCourse frontOf body fateOf askedBy
-all-decided = (refl, (refl, (refl, (refl, (refl, (refl, (refl, (refl, (refl, (refl, (refl, (refl, (refl, (refl, (refl, (refl, (refl, (refl, (refl, (refl, (refl, (refl, tt))))))))))))))))))))))
+all-decided = (refl, (refl, (refl, (refl, (refl, (refl, (refl, (refl, (refl, (refl, (refl, (refl, (refl, (refl, (refl, (refl, (refl, (refl, (refl, (refl, (refl, (refl, (refl, (refl, (refl, (refl, tt))))))))))))))))))))))))))
 
 pub points : Holds table
 points = holds table all-decided

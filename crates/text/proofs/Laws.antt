@@ -76,6 +76,20 @@ digit-more l m at n r d h e k v =
     ∙ sets-then (decimal (n / 10)) ((48 + n % 10) ∷ []) l at r k
     ∙ ap (λ (xs : List ℕ). sets l at xs) (sym (decimal-more n h))
 
+-- as many turns as it has digits are enough
+pub turns : (k n : ℕ) → n < 10 ^ suc k → decimal n ≡ digitsIn k n
+unfolding digitsIn
+turns zero n h = decimal-last n h
+turns (suc k) n h =
+    let p = pow-succ' 10 (suc k) in
+    go (decLt n 10) (turns k (n / 10) (omega arith))
+  where
+    go : Dec (n < 10) → decimal (n / 10) ≡ digitsIn k (n / 10) → decimal n ≡ cond (ltb n 10) [] (digitsIn k (n / 10)) ++ ((48 + n % 10) ∷ [])
+    go (yes l) r = rw (lt-ltb n 10 l) (decimal-last n l)
+    go (no m) r =
+        let b : 10 ≤ n = omega (arith, m) in
+        rw (le-ltb n 10 b) (decimal-more n b ∙ ap (λ (xs : List ℕ). xs ++ ((48 + n % 10) ∷ [])) r)
+
 -- a number below 10^k has k digits at most
 pub decimal-length : (k n : ℕ) → n < 10 ^ suc k → length (decimal n) ≤ suc k
 decimal-length zero n h = let e = last-length n h in omega arith

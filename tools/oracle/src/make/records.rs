@@ -74,6 +74,11 @@ fn edges() -> Vec<Vec<u8>> {
             all.push(join(&[&known(first, 24.0), &known(second, x)]));
         }
     }
+    // a repeat, and tags out of order, with a skipped field between them
+    let between = spelt(200, b"ab");
+    for [before, after] in [[&p, &p], [&t, &p], [&pt, &t], [&join(&[&pt, &d]), &d]] {
+        all.push(join(&[before, &between, after]));
+    }
     // the longest record that the program can be given
     all.push(join(&[&pt, &spelt(200, &vec![9; 65_535 - 25])]));
     all
