@@ -13,7 +13,8 @@ use lib.Ieee.{Float, binary64, add, mul}
 use Rattle.common.specs.Sum.{rawTotal, every}
 use Rattle.common.proofs.Sums.{both-left, both-right}
 use Rattle.rules.specs.Power.{one, odd}
-use Rattle.rules.specs.RawPower.{times, rawHigherBits, rawPower}
+use Rattle.rules.specs.Product.{times}
+use Rattle.rules.specs.RawPower.{rawHigherBits, rawPower}
 use Rattle.rounding.specs.Fraction.{Fraction, ratio, sumOver}
 use Rattle.rounding.specs.Arithmetic as fractions
 use Rattle.rounding.proofs.Near.{Same}
