@@ -65,12 +65,12 @@ table =
     row (p-field ++ (1 ∷ 0 ∷ 3 ∷ 0 ∷ 0 ∷ 0 ∷ [])) (refused 12) ∷
     row (p-field ++ p-field) (refused 13) ∷
     row (T-field ++ p-field) (refused 13) ∷
+    row (p-NaN ++ T-field) (value (record { pair = PT; a = 0x7ff8_0000_0000_0000; b = 0x4084_5000_0000_0000 })) ∷
+    row (p-18 ++ T-640) (value (record { pair = PT; a = 0x4032_0000_0000_0000; b = 0x4084_0000_0000_0000 })) ∷
     row (p-field ++ skipped-field ++ p-field) (refused 13) ∷
     row (T-field ++ skipped-field ++ p-field) (refused 13) ∷
     row (p-field ++ T-field ++ skipped-field ++ T-field) (refused 13) ∷
     row (p-field ++ T-field ++ d-field ++ skipped-field ++ d-field) (refused 13) ∷
-    row (p-NaN ++ T-field) (value (record { pair = PT; a = 0x7ff8_0000_0000_0000; b = 0x4084_5000_0000_0000 })) ∷
-    row (p-18 ++ T-640) (value (record { pair = PT; a = 0x4032_0000_0000_0000; b = 0x4084_0000_0000_0000 })) ∷
     []
 
 -- each row's bytes come to its outcome
