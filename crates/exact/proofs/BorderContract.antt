@@ -27,11 +27,11 @@ use Rattle.r4.proofs.Raw.{T-checked}
 use Rattle.border.specs.Border.{region3Box}
 use Rattle.border.proofs.check_region3.Kinds as check-kinds
 use Rattle.border.proofs.check_region3.Reads as checked
-use Rattle.boundaries.specs.Boundary.{Form, tabled, straight, formOf, formRule, boundaryOf}
-use Rattle.boundaries.specs.Raw.{rawTabled, rawStraight}
+use Rattle.boundaries.specs.Boundary.{boundaryOf}
+use Rattle.boundaries.specs.Raw.{rawAt}
 use Rattle.boundaries.specs.declared.Boundary.{Boundary}
 use Rattle.boundaries.specs.declared.Boundary.the-variants.{Ab, Cd, Ef, Gh, Ij, Jk, Mn, Op, Qu, Rx, Uv, Wx}
-use Rattle.boundaries.proofs.TableSums.{by-row, by-line}
+use Rattle.boundaries.proofs.TableSums.{boundary-check}
 use Rattle.choosers.specs.Choosers.{Band, ab, cdef, cghijk, clhijk, clmnopjk, cq-rk, csrk, cst, ct, bandOf}
 use Rattle.boundary.specs.Choice.{abRule, cdefRule, chijkRule, clmnopjkRule, nearRule, cq-rkRule, csrkRule, cstRule, ctRule, inBand, limit, letterAt}
 use Rattle.boundary.specs.Choice.{letterRule}
@@ -60,13 +60,9 @@ check-not nan e = five-not e
 check-not (inf s) e = five-not e
 check-not (fin s m d) e = no-value (sym e)
 
-form-not : (g : Form) (p : Float) → NotEight (formRule g p)
-form-not (tabled k) p = subst NotEight (by-row k p (rawTabled k p) refl) (check-not (rawTabled k p))
-form-not straight p = subst NotEight (by-line p (rawStraight p) refl) (check-not (rawStraight p))
-
 module _ (p t : Float) where
   line : {A : Type 0} (b : Boundary) (f : Float → Outcome A) → ((x : Float) → NotEight (f x)) → NotEight (then (boundaryOf b p) f)
-  line b f h = then-not (boundaryOf b p) f (form-not (formOf b) p) h
+  line b f h = then-not (boundaryOf b p) f (subst NotEight (boundary-check b p) (check-not (rawAt b p))) h
 
   saturated : {A : Type 0} (f : Float → Outcome A) → ((x : Float) → NotEight (f x)) → NotEight (then (T-saturation p) f)
   saturated f h = then-not (T-saturation p) f (subst NotEight (T-checked p refl) (check-not (orNan (T-saturation p)))) h
