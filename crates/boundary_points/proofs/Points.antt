@@ -86,5 +86,7 @@ points =
     ∷ []
 
 pub points-hold : map got points ≡ map wanted points
-unfolding got wanted points letterRule region3Box besideBorder B23-p2T letterAt limit p-saturation T-saturation abRule cdefRule chijkRule ctRule boundaryRule walkRule rowAt table straight3ef total powerRule rootRule nearestRoot wholeRoot logarithmRule ln2 exponentialRule inUnits decimal whole plus minus scaled round neg add sub sum mul div ofInt le lt eq
+unfolding got wanted points letterRule region3Box besideBorder B23-p2T letterAt limit p-saturation T-saturation abRule cdefRule chijkRule ctRule boundaryRule
+    walkRule rowAt table straight3ef total powerRule rootRule nearestRoot wholeRoot logarithmRule ln2 exponentialRule inUnits decimal whole plus minus scaled
+    round neg add sub sum mul div ofInt le lt eq
 points-hold = refl

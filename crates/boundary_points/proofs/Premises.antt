@@ -11,7 +11,6 @@ use Rattle.common.specs.Outcome.{valueIn}
 use Rattle.common.specs.Decimal.{decimal, whole, scaled, plus}
 use Rattle.common.specs.Constant.{T-FROM, T-TO}
 use Rattle.common.specs.Sum.{every}
-use Rattle.common.proofs.Sums.{both-left, both-right}
 use Rattle.inverses.specs.Units.{inUnits}
 use Rattle.inverses.specs.Root.{rootRule, nearestRoot, wholeRoot}
 use Rattle.border.specs.Border.{B23-p2T, B23-p2TRule}
@@ -20,6 +19,7 @@ use Rattle.subregion.specs.declared.Letter.{Letter}
 use Rattle.subregion.specs.declared.Letter.the-variants.{C, G, H, I, J, K, L}
 use Rattle.distance.specs.Exact.{Polynomial, temperature}
 use Rattle.distance.specs.Letter.{tolerance, kelvin, exactLetter, All, five, Inside, Clear, Off}
+use Rattle.distance.proofs.Lists.{all-of}
 
 pub record Point : Type 0 where
   pub p : Float
@@ -58,7 +58,8 @@ abbrev off : Polynomial → ℕ → ℕ → Bool
 off b P n =
     let x = kelvin n in
     let y = temperature b P in
-    leb (side x y * tolerance + 1 * (x .scale * y .scale)) (side y x * tolerance) || leb (side y x * tolerance + 1 * (y .scale * x .scale)) (side x y * tolerance)
+    leb (side x y * tolerance + 1 * (x .scale * y .scale)) (side y x * tolerance)
+    || leb (side y x * tolerance + 1 * (y .scale * x .scale)) (side x y * tolerance)
 
 off→ : (b : Polynomial) (P n : ℕ) → T (off b P n) → Off b P n
 off→ b P n t =
@@ -72,11 +73,6 @@ off→ b P n t =
 
     either : (a b c d : ℕ) → T (leb a b || leb c d) → (a ≤ b) ⊎ (c ≤ d)
     either a b c d t = elim (cases (leb a b) (leb c d) t) [ inl u ↦ inl (leb→le a b u) | inr u ↦ inr (leb→le c d u) ]
-
-all-of : {A : Type 0} (f : A → Bool) (F : A → Type 0) → ((x : A) → T (f x) → F x) → (xs : List A) → T (every f xs) → All F xs
-unfolding every
-all-of f F h [] t = tt
-all-of f F h (x ∷ xs) t = (h x (both-left (f x) (every f xs) t), all-of f F h xs (both-right (f x) (every f xs) t))
 
 abbrev placed : Float → Float → List Bool
 placed p t = fits binary64 p ∷ fits binary64 t ∷ lt (whole 23) p ∷ le p (whole 25) ∷ le T-FROM t ∷ le t T-TO ∷ le t (valueIn (B23-p2TRule p)) ∷ []
@@ -97,10 +93,19 @@ met x h =
     let o = every (λ b. off b P n) five in
     let e = all-of (λ b. b) T (λ b t. t) (placed (x .p) (x .t)) (and-l a o h) in
     record {
-      inside = record { p-f64 = e .0; t-f64 = e .1 .0; p-above = e .1 .1 .0; p-upto = e .1 .1 .1 .0; t-from = e .1 .1 .1 .1 .0; t-to = e .1 .1 .1 .1 .1 .0; t-border = e .1 .1 .1 .1 .1 .1 .0 };
+      inside = record {
+        p-f64 = e .0;
+        t-f64 = e .1 .0;
+        p-above = e .1 .1 .0;
+        p-upto = e .1 .1 .1 .0;
+        t-from = e .1 .1 .1 .1 .0;
+        t-to = e .1 .1 .1 .1 .1 .0;
+        t-border = e .1 .1 .1 .1 .1 .1 .0;
+      };
       clear = all-of (λ b. off b P n) (λ b. Off b P n) (λ b t. off→ b P n t) five (and-r a o h);
     }
 
 pub points-met : All Met points
-unfolding points every temperature sumOver scaledBy B23-p2TRule B23-p2T rootRule nearestRoot wholeRoot inUnits whole decimal plus scaled round neg add sub sum div fits lt le eq
+unfolding points every temperature sumOver scaledBy B23-p2TRule B23-p2T rootRule nearestRoot wholeRoot inUnits whole decimal plus scaled round neg add sub sum
+    div fits lt le eq
 points-met = all-of meets Met met points tt

@@ -29,5 +29,6 @@ values =
     ∷ []
 
 pub values-agree : every agrees values ≡ true
-unfolding values every boundaryRule walkRule rowAt table straight3ef total powerRule logarithmRule L inUnits scaled decimal whole plus minus round neg add sub sum mul div ofInt le
+unfolding values every boundaryRule walkRule rowAt table straight3ef total powerRule logarithmRule L inUnits scaled decimal whole plus minus round neg add sub
+    sum mul div ofInt le
 values-agree = refl

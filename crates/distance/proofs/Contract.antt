@@ -29,20 +29,22 @@ use Rattle.distance.specs.Letter.{exactLetter, Inside, Clear}
 use Rattle.distance.proofs.Distances.{boundary-distance}
 use Rattle.distance.proofs.Letters.{exact-letter}
 
-pub line-reaches : (κs : Lfts 0) (a : Dens κs line-kinds.ps) (e : AtExit (endedOf 0 line-kinds.ps line-kinds.r) κs) (r : resT line-kinds.r κs .Denot) → line.Post κs a r e
+pub line-reaches : (κs : Lfts 0) (a : Dens κs line-kinds.ps) (e : AtExit (endedOf 0 line-kinds.ps line-kinds.r) κs)
+    (r : resT line-kinds.r κs .Denot) → line.Post κs a r e
     → (b : Polynomial) → a .1 .0 ≡ kind b → T (fits binary64 (a .0 .0)) → T (le P-FROM (a .0 .0)) → T (le (a .0 .0) (whole (top b)))
     → Reaches b (scaledBy 48 (a .0 .0)) (paper r)
 line-reaches κs a e r post b k held from to =
     subst (Reaches b (scaledBy 48 (a .0 .0))) (sym (post ∙ ap (λ (x : Boundary). boundaryRule x (a .0 .0)) k)) (boundary-distance b (a .0 .0) held from to)
 
-taken : (r : LetterAnswer) (l : Letter) → paperLetter r ≡ value l → r ≡ Value l
+pub taken : (r : LetterAnswer) (l : Letter) → paperLetter r ≡ value l → r ≡ Value l
 taken (Value m) l e = cc
 taken (Refused k) l e = absurd (never (numberOf k) l e)
   where
     never : (k : ℕ) (l : Letter) → _≡_ {A = Outcome Letter} (refused k) (value l) → ⊥
     never k l e = let z : _≡_ {A = ℕ} 0 1 = cc in omega arith
 
-pub sub-region-exact : (κs : Lfts 0) (a : Dens κs choice-kinds.ps) (e : AtExit (endedOf 0 choice-kinds.ps choice-kinds.r) κs) (r : resT choice-kinds.r κs .Denot) → choice.Post κs a r e
+pub sub-region-exact : (κs : Lfts 0) (a : Dens κs choice-kinds.ps) (e : AtExit (endedOf 0 choice-kinds.ps choice-kinds.r) κs)
+    (r : resT choice-kinds.r κs .Denot) → choice.Post κs a r e
     → Inside (a .0 .0) (a .1 .0 .0) → Clear (scaledBy 48 (a .0 .0)) (scaledBy 43 (a .1 .0 .0))
     → r ≡ Value (exactLetter (scaledBy 48 (a .0 .0)) (scaledBy 43 (a .1 .0 .0)))
 sub-region-exact κs a e r post i k = taken r (exactLetter (scaledBy 48 (a .0 .0)) (scaledBy 43 (a .1 .0 .0))) (post ∙ exact-letter (a .0 .0) (a .1 .0 .0) i k)

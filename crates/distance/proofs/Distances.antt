@@ -12,7 +12,8 @@ use Rattle.common.specs.Decimal.{whole}
 use Rattle.common.specs.Constant.{P-FROM, P-TO}
 use Rattle.common.specs.Sum.{every}
 use Rattle.rounding.specs.Fraction.{Near, scaledBy}
-use Rattle.rounding.proofs.Bound.{float, tight, expression-near}
+use Rattle.rounding.proofs.Expressions.{float, always}
+use Rattle.rounding.proofs.BoundBySize.{tight, expression-near}
 use Rattle.rounding.proofs.Whole.{held-value}
 use Rattle.boundaries.specs.Boundary.{boundaryOf, boundaryRule}
 use Rattle.distance.specs.Exact.{form, Polynomial, cd, ef, gh, ij, jk, mn, qu, rx, uv, Q, temperature}
@@ -24,17 +25,18 @@ use Rattle.distance.proofs.Pressure.{p-whole, p-upto, p-finite, p-box}
 -- What is computed of each boundary. No step overflows, each coefficient is near its decimal, and the error is at most the distance;
 -- powers and exponents are those that the laws above take; the top lies in the box.
 record Sure (b : Polynomial) : Type 0 where
-  is-tight : T (tight binary64 (top b * 2 ^ 1074) (ex (form b)) (distance b) unit)
+  is-tight : T (tight (top b * 2 ^ 1074) (ex (form b)) (distance b) unit)
   is-taken : T (taken (form b))
   is-even : T (even (form b))
   some : T (ltb 0 (top b))
   few : T (leb (top b) 100)
 
-abbrev passed : (b : Polynomial) → T (tight binary64 (top b * 2 ^ 1074) (ex (form b)) (distance b) unit) → T (taken (form b)) → T (even (form b)) → T (ltb 0 (top b)) → T (leb (top b) 100) → Sure b
+abbrev passed : (b : Polynomial) → T (tight (top b * 2 ^ 1074) (ex (form b)) (distance b) unit) → T (taken (form b)) → T (even (form b)) → T (ltb 0 (top b))
+    → T (leb (top b) 100) → Sure b
 passed b a c d e f = record { is-tight = a; is-taken = c; is-even = d; some = e; few = f }
 
 test : (b : Polynomial) → Sure b
-unfolding tight form rows-ex ef-ex every round neg
+unfolding tight form rows-ex ef-ex every round neg fits
 test cd = passed cd tt tt tt tt tt
 test ef = passed ef tt tt tt tt tt
 test gh = passed gh tt tt tt tt tt
@@ -55,11 +57,13 @@ pub boundary-reaches : (b : Polynomial) (p : Float) (P : ℕ) → HasValue p fal
 unfolding temperature
 boundary-reaches b p P h l =
     subst (Reaches b P) (sym (written b p ∙ form-check (form b) p (bare-of p P (top b) h l (leb→le (top b) 100 (test b .few))) (test b .is-taken)))
-    (reached b P (float binary64 p (ex (form b)))
-    (expression-near (distance b) unit (held-value binary64 p P Q (2 ^ 1026) (top b) refl l h) (ex (form b)) (form-same (form b) P (test b .is-even)) (test b .is-tight)))
+    (reached b P (float (always p) (ex (form b)))
+    (expression-near 0 (distance b) unit (held-value binary64 p P Q (2 ^ 1026) (top b) refl l h) (ex (form b)) (form-same (form b) P (test b .is-even))
+    (test b .is-tight)))
 
 -- The call accepts every f64 p from 16.529 to the boundary's top, and its answer is within the boundary's distance of the exact temperature.
-pub boundary-distance : (b : Polynomial) (p : Float) → T (fits binary64 p) → T (le P-FROM p) → T (le p (whole (top b))) → Reaches b (scaledBy 48 p) (boundaryRule (kind b) p)
+pub boundary-distance : (b : Polynomial) (p : Float) → T (fits binary64 p) → T (le P-FROM p) → T (le p (whole (top b)))
+    → Reaches b (scaledBy 48 p) (boundaryRule (kind b) p)
 unfolding boundaryRule
 boundary-distance b p held from to =
     let some = ltb→lt 0 (top b) (test b .some) in

@@ -1,7 +1,7 @@
 -- No power of p up to 4 either way is lost, where p is a whole number of 2^-48 and at most 100: it is 0, or from 2^-48 to 2^48. Assumes nothing.
-use mathlib.Core.Path.{_≡_, refl, sym, ap, _∙_, subst}
+use mathlib.Core.Path.{_≡_, refl, sym, subst}
 use mathlib.Core.Logic.{inl, inr}
-use mathlib.Core.Bool.{Bool, true, false}
+use mathlib.Core.Bool.{true, false}
 use Prim.Native.Nat.{ℕ, _*_, _^_, _≤_, _<_}
 use native.Mathlib.Nat.{eq-zero-or-pos, le-trans, le-of-eq, mul-le-mul-right, le-of-mul-le-mul-right, mul-right-comm, mul-pos, one-mul}
 use native.Mathlib.Omega.{arith}
@@ -12,7 +12,6 @@ use lib.Ieee.{Float, nan, inf, fin, up, down}
 use lib.Ieee.Exact.{HasValue}
 use lib.Ieee.Fits.{up-pos}
 use borrow.Author.Tests.{leb-true, le-leb, eq-eqb}
-use Rattle.sizes.proofs.Band.{Band}
 use Rattle.common.specs.Outcome.{check}
 use Rattle.rules.specs.Power.{powerRule}
 use Rattle.rules.specs.RawPower.{rawPower}
@@ -40,10 +39,16 @@ kept-of (fin s m e) P N h l few i small =
     let four : natAbs i ≤ 4 = leb-true (natAbs i) 4 small in
     let ok : leb (natAbs i) 64 ≡ true = le-leb (natAbs i) 64 (omega arith) in
     elim (eq-zero-or-pos P) [
-      | inl z ↦ power-zero (fin s m e) i (eq-eqb m 0 (none m (up e) Q (down e) (up-pos e) (pow-pos 48) (subst (λ (x : ℕ). m * up e * Q ≡ x * down e) z (h .1)))) ok
+      | inl z ↦ power-zero (fin s m e) i (eq-eqb m 0
+          (none m (up e) Q (down e) (up-pos e) (pow-pos 48) (subst (λ (x : ℕ). m * up e * Q ≡ x * down e) z (h .1)))) ok
       | inr q ↦
           power-band 48 (fin s m e) i
-          (record { kept = refl; least = least (m * up e) (down e) P Q q (h .1); most = le-trans (most (m * up e) (down e) P N Q (pow-pos 48) (h .1) l) (mul-le-mul-right (down e) (le-trans few hundred)) })
+          (record {
+            kept = refl;
+            least = least (m * up e) (down e) P Q q (h .1);
+            most = le-trans (most (m * up e) (down e) P N Q (pow-pos 48) (h .1) l)
+                (mul-le-mul-right (down e) (le-trans few hundred));
+          })
           ok (omega arith)
     ]
   where

@@ -1,5 +1,5 @@
--- Demand 3. For two f64s 23 < p ≤ 25 and 623.15 ≤ T ≤ 863.15, T not above the border with region 2, where T lies a millionth of a kelvin or more from each of the five boundary
--- temperatures, worked out exactly, the letter choice accepts and gives the letter that exact arithmetic gives. Assumes nothing.
+-- Demand 3. For two f64s 23 < p ≤ 25 and 623.15 ≤ T ≤ 863.15, T not above the border with region 2, where T lies a millionth of a kelvin or more from each
+-- of the five boundary temperatures, worked out exactly, the letter choice accepts and gives the letter that exact arithmetic gives. Assumes nothing.
 use mathlib.Core.Path.{_≡_, refl, sym, ap, _∙_, subst}
 use Prim.Native.Nat.{ℕ, _+_, _*_, _^_, _≤_, _<_}
 use native.Mathlib.Nat.{le-trans, mul-one, mul-le-mul-right, zero-lt-suc}
@@ -53,11 +53,19 @@ module _ (p t : Float) (P n : ℕ) (whole-p : HasValue p false P Q) (whole-t : H
   judge b h off =
       let s = ltb 0 (temperature b P .scale) in
       let d = ltb (distance b * tolerance) (1 * unit) in
-      go (ltb→lt 0 (temperature b P .scale) (and-l s d (and-l (s && d) (leb 25 (top b)) h))) (ltb→lt (distance b * tolerance) (1 * unit) (and-r s d (and-l (s && d) (leb 25 (top b)) h)))
-      (boundaryOf (kind b) p) refl (boundary-reaches b p P whole-p (le-trans upto-25 (mul-le-mul-right Q (leb→le 25 (top b) (and-r (s && d) (leb 25 (top b)) h)))))
+      go (ltb→lt 0 (temperature b P .scale) (and-l s d (and-l (s && d) (leb 25 (top b)) h)))
+      (ltb→lt (distance b * tolerance) (1 * unit) (and-r s d (and-l (s && d) (leb 25 (top b)) h)))
+      (boundaryOf (kind b) p) refl (boundary-reaches b p P whole-p
+      (le-trans upto-25 (mul-le-mul-right Q (leb→le 25 (top b) (and-r (s && d) (leb 25 (top b)) h)))))
     where
       go : 0 < temperature b P .scale → distance b * tolerance < 1 * unit → (x : Outcome Float) → boundaryOf (kind b) p ≡ x → Reaches b P x → Judged b p t P n
-      go s d (value y) e near = record { number = y; accepted = e; same = le-agrees t y n (2 ^ 43) (temperature b P) (distance b) unit 1 tolerance (pow-pos 43) s (lit< tt) d whole-t near off }
+      go s d (value y) e near =
+          record {
+            number = y;
+            accepted = e;
+            same = le-agrees t y n (2 ^ 43) (temperature b P) (distance b) unit 1 tolerance (pow-pos 43) s (lit< tt) d whole-t
+                near off;
+          }
       go s d (refused k) e near = absurd near
 
   judge-all : (bs : List Polynomial) → T (every (apt P) bs) → All (λ b. Off b P n) bs → All (λ b. Judged b p t P n) bs
@@ -143,7 +151,9 @@ module _ (p t : Float) (i : Inside p t) where
 
   -- ---- the band
   not-above : (N : ℕ) → 25 ≤ N → N ≤ 100 → lt (whole N) p ≡ false
-  not-above N l s = lt-values (whole N) p N 1 P Q (zero-lt-suc 0) (pow-pos 48) (whole-value N s) whole-p ∙ is-false (ltb (N * Q) (P * 1)) (le→nltb (N * Q) (P * 1) (reach (le-trans upto-25 (mul-le-mul-right Q l))))
+  not-above N l s =
+      lt-values (whole N) p N 1 P Q (zero-lt-suc 0) (pow-pos 48) (whole-value N s) whole-p ∙ is-false (ltb (N * Q) (P * 1))
+      (le→nltb (N * Q) (P * 1) (reach (le-trans upto-25 (mul-le-mul-right Q l))))
     where
       reach : P ≤ N * Q → P * 1 ≤ N * Q
       reach h = subst (λ (z : ℕ). z ≤ N * Q) (sym (mul-one P)) h

@@ -4,3 +4,4 @@ pub mod Expressions
 pub mod Distances
 pub mod Letters
 pub mod Contract
+pub mod Lists

@@ -35,10 +35,15 @@ module _ (p : Float) (held : T (fits binary64 p)) (N : ℕ) (some : 0 < N) (few 
   p-whole = whole-from 4 48 refl P-FROM p tt p-positive held tt from
 
   pub p-upto : scaledBy 48 p ≤ N * Q
-  p-upto = subst (λ (z : ℕ). z ≤ N * Q) (mul-one (scaledBy 48 p)) (values-of-le p (whole N) (scaledBy 48 p) Q N 1 p-positive N-positive p-whole (whole-value N few) to)
+  p-upto =
+      subst (λ (z : ℕ). z ≤ N * Q) (mul-one (scaledBy 48 p))
+      (values-of-le p (whole N) (scaledBy 48 p) Q N 1 p-positive N-positive p-whole (whole-value N few) to)
 
   pub p-finite : finite p ≡ true
   p-finite = finite-value p (scaledBy 48 p) Q p-whole
 
   pub p-box : T (le p P-TO)
-  p-box = le-trans-positive p (whole N) (whole 100) p-positive N-positive (positive-of-value (whole 100) 100 1 (whole-value 100 (lit≤ tt)) (zero-lt-suc 99)) to (le-of-values (whole N) (whole 100) N 1 100 1 (zero-lt-suc 0) (zero-lt-suc 0) (whole-value N few) (whole-value 100 (lit≤ tt)) (mul-le-mul-right 1 few))
+  p-box =
+      le-trans-positive p (whole N) (whole 100) p-positive N-positive (positive-of-value (whole 100) 100 1 (whole-value 100 (lit≤ tt)) (zero-lt-suc 99)) to
+      (le-of-values (whole N) (whole 100) N 1 100 1 (zero-lt-suc 0) (zero-lt-suc 0) (whole-value N few) (whole-value 100 (lit≤ tt))
+      (mul-le-mul-right 1 few))

@@ -1,5 +1,5 @@
 -- To believe: the boundaries of region 3 that are polynomials in p, worked out exactly in whole numbers: S05rev, equations 1 and 3, with the coefficients
--- of table 2 as printed. p is P / 2^48 MPa for a whole P; a temperature is (over - under) / scale K. Assumes nothing: these are definitions.
+-- as printed. p is P / 2^48 MPa for a whole P; a temperature is (over - under) / scale K. Assumes nothing: these are definitions.
 use Prim.Native.Nat.{ℕ, suc, _+_, _-_, _*_, _^_}
 use mathlib.Core.Bool.{Bool, true, false, cond}
 use mathlib.Core.List.{List, [], _∷_}
@@ -7,7 +7,7 @@ use lib.IntN.{ℤ, pos, negsuc}
 use Rattle.common.specs.Decimal.{negative}
 use Rattle.rounding.specs.Fraction.{Fraction, sumOver}
 
--- a row of table 2: the exponent I of p and the coefficient ±0.digits * 10^e, with 15 digits
+-- a row: the exponent I of p and the coefficient ±0.digits * 10^e, with 15 digits
 pub record Row : Type 0 where
   pub power : ℕ
   pub negative : Bool

@@ -13,7 +13,8 @@ use lib.Seq.{getD-set-same, getD-set-other, ext-getD}
 use lib.Ieee.{Float, nan, binary64, mul, div}
 use borrow.Author.Tests.{eqb-true, eqb-false, lt-ltb, le-ltb, ltb-true, ltb-false}
 use Rattle.rules.specs.Power.{one, odd}
-use Rattle.rules.specs.RawPower.{times, rawHigherBits, rawByBits, rawPower}
+use Rattle.rules.specs.Product.{times}
+use Rattle.rules.specs.RawPower.{rawHigherBits, rawByBits, rawPower}
 use Rattle.powers.specs.Reach.{squared}
 use Rattle.powers.specs.Powers.{exponentAt, Has, HasPowers, Written, WrittenBy}
 

@@ -12,28 +12,27 @@ use lib.Ieee.{Float, Format, low, add, mul}
 use lib.Ieee.Exact.{HasValue}
 use lib.Ieee.Scale.{overflow}
 use Rattle.rounding.specs.Fraction.{Fraction}
+use Rattle.rounding.specs.Arithmetic.{plus, times}
 use Rattle.rounding.proofs.Round.{slack}
 use Rattle.rounding.proofs.Ops.{pl, mi, Close, add-near, mul-near}
+
+-- ±v units, a unit being 1 / U, is within e units of y
+abbrev pub CloseTo : Bool → ℕ → Fraction → ℕ → ℕ → Type 0
+CloseTo s v y U e = Close (pl s v * y .scale) (mi s v * y .scale) (y .over * U) (y .under * U) (e * y .scale)
 
 pub record Held (f : Format) (x : Float) (y : Fraction) (M e : ℕ) : Type 0 where
   pub sign : Bool
   pub size : ℕ
   pub value : HasValue x sign size (2 ^ low f)
   pub small : size ≤ M
-  pub near : Close (pl sign size * y .scale) (mi sign size * y .scale) (y .over * 2 ^ low f) (y .under * 2 ^ low f) (e * y .scale)
-
--- ---- the fractions' own sum and product
-abbrev pub plus : Fraction → Fraction → Fraction
-plus x y = record { over = x .over * y .scale + y .over * x .scale; under = x .under * y .scale + y .under * x .scale; scale = x .scale * y .scale }
-
-abbrev pub times : Fraction → Fraction → Fraction
-times x y = record { over = x .over * y .over + x .under * y .under; under = x .over * y .under + x .under * y .over; scale = x .scale * y .scale }
+  pub near : CloseTo sign size y (2 ^ low f) e
 
 -- ---- sums
 pub close-scale : (k a b c d e : ℕ) → Close a b c d e → Close (a * k) (b * k) (c * k) (d * k) (e * k)
 close-scale k a b c d e h = (omega (arith, mul-le-mul-right k (h .0)), omega (arith, mul-le-mul-right k (h .1)))
 
-close-add : (z y p p' n n' a a' b b' r e e' : ℕ) → Close z y (p + p') (n + n') r → Close p n a b e → Close p' n' a' b' e' → Close z y (a + a') (b + b') (e + e' + r)
+close-add : (z y p p' n n' a a' b b' r e e' : ℕ) → Close z y (p + p') (n + n') r → Close p n a b e → Close p' n' a' b' e'
+    → Close z y (a + a') (b + b') (e + e' + r)
 close-add z y p p' n n' a a' b b' r e e' h k l = omega arith
 
 -- the size and the error of a sum, from those of its parts
@@ -44,15 +43,20 @@ abbrev pub sum-error : Format → ℕ → ℕ → ℕ → ℕ → ℕ
 sum-error f M e M' e' = e + e' + slack f (M + M')
 
 add-arith : (p n q a b e p' n' q' a' b' e' z y r U : ℕ) → Close (p * q) (n * q) (a * U) (b * U) (e * q) → Close (p' * q') (n' * q') (a' * U) (b' * U) (e' * q')
-    → Close (z * 1) (y * 1) (p + p') (n + n') (r * 1) → Close (z * (q * q')) (y * (q * q')) ((a * q' + a' * q) * U) ((b * q' + b' * q) * U) ((e + e' + r) * (q * q'))
+    → Close (z * 1) (y * 1) (p + p') (n + n') (r * 1)
+    → Close (z * (q * q')) (y * (q * q')) ((a * q' + a' * q) * U) ((b * q' + b' * q) * U) ((e + e' + r) * (q * q'))
 add-arith p n q a b e p' n' q' a' b' e' z y r U h k l =
-    shape (close-add (z * (q * q')) (y * (q * q')) (p * q * q') (p' * q' * q) (n * q * q') (n' * q' * q) (a * U * q') (a' * U * q) (b * U * q') (b' * U * q) (r * (q * q')) (e * q * q') (e' * q' * q)
-    (third (close-scale (q * q') (z * 1) (y * 1) (p + p') (n + n') (r * 1) l)) (close-scale q' (p * q) (n * q) (a * U) (b * U) (e * q) h) (close-scale q (p' * q') (n' * q') (a' * U) (b' * U) (e' * q') k))
+    shape (close-add (z * (q * q')) (y * (q * q')) (p * q * q') (p' * q' * q) (n * q * q') (n' * q' * q) (a * U * q') (a' * U * q) (b * U * q') (b' * U * q)
+    (r * (q * q')) (e * q * q') (e' * q' * q)
+    (third (close-scale (q * q') (z * 1) (y * 1) (p + p') (n + n') (r * 1) l)) (close-scale q' (p * q) (n * q) (a * U) (b * U) (e * q) h)
+    (close-scale q (p' * q') (n' * q') (a' * U) (b' * U) (e' * q') k))
   where
-    third : Close (z * 1 * (q * q')) (y * 1 * (q * q')) ((p + p') * (q * q')) ((n + n') * (q * q')) (r * 1 * (q * q')) → Close (z * (q * q')) (y * (q * q')) (p * q * q' + p' * q' * q) (n * q * q' + n' * q' * q) (r * (q * q'))
+    third : Close (z * 1 * (q * q')) (y * 1 * (q * q')) ((p + p') * (q * q')) ((n + n') * (q * q')) (r * 1 * (q * q'))
+        → Close (z * (q * q')) (y * (q * q')) (p * q * q' + p' * q' * q) (n * q * q' + n' * q' * q) (r * (q * q'))
     third c = (omega (arith, c .0), omega (arith, c .1))
 
-    shape : Close (z * (q * q')) (y * (q * q')) (a * U * q' + a' * U * q) (b * U * q' + b' * U * q) (e * q * q' + e' * q' * q + r * (q * q')) → Close (z * (q * q')) (y * (q * q')) ((a * q' + a' * q) * U) ((b * q' + b' * q) * U) ((e + e' + r) * (q * q'))
+    shape : Close (z * (q * q')) (y * (q * q')) (a * U * q' + a' * U * q) (b * U * q' + b' * U * q) (e * q * q' + e' * q' * q + r * (q * q'))
+        → Close (z * (q * q')) (y * (q * q')) ((a * q' + a' * q) * U) ((b * q' + b' * q) * U) ((e + e' + r) * (q * q'))
     shape c = (omega (arith, c .0), omega (arith, c .1))
 
 pub held-add : {f : Format} {x x' : Float} {y y' : Fraction} {M e M' e' : ℕ} → Held f x y M e → Held f x' y' M' e' → sum-size f M M' < overflow f
@@ -64,7 +68,8 @@ held-add {f} {x} {x'} {y} {y'} {M} {e} {M'} {e'} h k o =
       size = r .size;
       value = r .value;
       small = r .small;
-      near = add-arith (pl (h .sign) (h .size)) (mi (h .sign) (h .size)) (y .scale) (y .over) (y .under) e (pl (k .sign) (k .size)) (mi (k .sign) (k .size)) (y' .scale) (y' .over) (y' .under) e'
+      near = add-arith (pl (h .sign) (h .size)) (mi (h .sign) (h .size)) (y .scale) (y .over) (y .under) e (pl (k .sign) (k .size)) (mi (k .sign) (k .size))
+          (y' .scale) (y' .over) (y' .under) e'
           (pl (r .sign) (r .size)) (mi (r .sign) (r .size)) (slack f (M + M')) (2 ^ low f) (h .near) (k .near) (r .near);
     }
   where
@@ -94,7 +99,7 @@ same-sign h d l c K L m = omega arith
 cross-sign : (h d l c K L : ℕ) → d * c ≤ K * L → Close ((h + d) * l + h * (l + c)) ((h + d) * (l + c) + h * l) 0 0 (K * L)
 cross-sign h d l c K L m = omega arith
 
-signed-le : (g h k l K L : ℕ) → g ≤ h + K → h ≤ g + K → k ≤ l + L → l ≤ k + L → Close (g * k + h * l) (g * l + h * k) 0 0 (K * L)
+pub signed-le : (g h k l K L : ℕ) → g ≤ h + K → h ≤ g + K → k ≤ l + L → l ≤ k + L → Close (g * k + h * l) (g * l + h * k) 0 0 (K * L)
 signed-le g h k l K L a b c d = go (apart g h) (apart k l)
   where
     Goal : ℕ → ℕ → ℕ → ℕ → Type 0
@@ -131,10 +136,10 @@ mul-error P N A B K E P' N' A' B' K' E' m m' c c' =
         → Close (P * P' + N * N') (P * N' + N * P') (A * A' + B * B') (A * B' + B * A') (K * E' + K' * E + E * E')
     sum-up s1 s2 s3 = omega arith
 
-close-trans : (z y c d a b e e' : ℕ) → Close z y c d e → Close c d a b e' → Close z y a b (e + e')
+pub close-trans : (z y c d a b e e' : ℕ) → Close z y c d e → Close c d a b e' → Close z y a b (e + e')
 close-trans z y c d a b e e' h k = omega arith
 
-close-cancel : (U z y a b e : ℕ) → 0 < U → Close (z * U) (y * U) (a * U) (b * U) (e * U) → Close z y a b e
+pub close-cancel : (U z y a b e : ℕ) → 0 < U → Close (z * U) (y * U) (a * U) (b * U) (e * U) → Close z y a b e
 close-cancel U z y a b e P h = (le-of-mul-le-mul-right (lo (h .0)) P, le-of-mul-le-mul-right (hi (h .1)) P)
   where
     lo : z * U + b * U ≤ a * U + y * U + e * U → (z + b) * U ≤ (a + y + e) * U
@@ -143,7 +148,7 @@ close-cancel U z y a b e P h = (le-of-mul-le-mul-right (lo (h .0)) P, le-of-mul-
     hi : a * U + y * U ≤ z * U + b * U + e * U → (a + y) * U ≤ (z + b + e) * U
     hi g = omega arith
 
-close-weaken : (z y a b e e' : ℕ) → e ≤ e' → Close z y a b e → Close z y a b e'
+pub close-weaken : (z y a b e e' : ℕ) → e ≤ e' → Close z y a b e → Close z y a b e'
 close-weaken z y a b e e' l h = omega arith
 
 mul-arith : (p n q a b e M p' n' q' a' b' e' M' z y r X U : ℕ) → 0 < U → Close p n 0 0 M → Close p' n' 0 0 M'
@@ -152,12 +157,16 @@ mul-arith : (p n q a b e M p' n' q' a' b' e' M' z y r X U : ℕ) → 0 < U → C
     → Close (z * (q * q')) (y * (q * q')) ((a * a' + b * b') * U) ((a * b' + b * a') * U) ((r + X) * (q * q'))
 mul-arith p n q a b e M p' n' q' a' b' e' M' z y r X U P m m' h k l x =
     close-cancel U (z * (q * q')) (y * (q * q')) ((a * a' + b * b') * U) ((a * b' + b * a') * U) ((r + X) * (q * q')) P
-    (close-weaken (z * (q * q') * U) (y * (q * q') * U) ((a * a' + b * b') * U * U) ((a * b' + b * a') * U * U) (r * U * (q * q') + (M * q * (e' * q') + M' * q' * (e * q) + e * q * (e' * q'))) ((r + X) * (q * q') * U)
+    (close-weaken (z * (q * q') * U) (y * (q * q') * U) ((a * a' + b * b') * U * U) ((a * b' + b * a') * U * U)
+    (r * U * (q * q') + (M * q * (e' * q') + M' * q' * (e * q) + e * q * (e' * q'))) ((r + X) * (q * q') * U)
     (room (mul-le-mul-right (q * q') x))
-    (close-trans (z * (q * q') * U) (y * (q * q') * U) (p * q * (p' * q') + n * q * (n' * q')) (p * q * (n' * q') + n * q * (p' * q')) ((a * a' + b * b') * U * U) ((a * b' + b * a') * U * U)
+    (close-trans (z * (q * q') * U) (y * (q * q') * U) (p * q * (p' * q') + n * q * (n' * q')) (p * q * (n' * q') + n * q * (p' * q'))
+    ((a * a' + b * b') * U * U) ((a * b' + b * a') * U * U)
     (r * U * (q * q')) (M * q * (e' * q') + M' * q' * (e * q) + e * q * (e' * q'))
     (first (close-scale (q * q') (z * U) (y * U) (p * p' + n * n') (p * n' + n * p') (r * U) l))
-    (second (p * q * (p' * q') + n * q * (n' * q')) (p * q * (n' * q') + n * q * (p' * q')) (M * q * (e' * q') + M' * q' * (e * q) + e * q * (e' * q')) (mul-error (p * q) (n * q) (a * U) (b * U) (M * q) (e * q) (p' * q') (n' * q') (a' * U) (b' * U) (M' * q') (e' * q') (zeros p n M q m) (zeros p' n' M' q' m') h k))))
+    (second (p * q * (p' * q') + n * q * (n' * q')) (p * q * (n' * q') + n * q * (p' * q')) (M * q * (e' * q') + M' * q' * (e * q) + e * q * (e' * q'))
+    (mul-error (p * q) (n * q) (a * U) (b * U) (M * q) (e * q) (p' * q') (n' * q') (a' * U) (b' * U) (M' * q') (e' * q') (zeros p n M q m)
+    (zeros p' n' M' q' m') h k))))
   where
     zeros : (p n M q : ℕ) → Close p n 0 0 M → Close (p * q) (n * q) 0 0 (M * q)
     zeros p n M q c = (omega (arith, mul-le-mul-right q (c .0)), omega (arith, mul-le-mul-right q (c .1)))
@@ -166,13 +175,15 @@ mul-arith p n q a b e M p' n' q' a' b' e' M' z y r X U P m m' h k l x =
         → Close (z * (q * q') * U) (y * (q * q') * U) (p * q * (p' * q') + n * q * (n' * q')) (p * q * (n' * q') + n * q * (p' * q')) (r * U * (q * q'))
     first c = (omega (arith, c .0), omega (arith, c .1))
 
-    second : (u v w : ℕ) → Close u v (a * U * (a' * U) + b * U * (b' * U)) (a * U * (b' * U) + b * U * (a' * U)) w → Close u v ((a * a' + b * b') * U * U) ((a * b' + b * a') * U * U) w
+    second : (u v w : ℕ) → Close u v (a * U * (a' * U) + b * U * (b' * U)) (a * U * (b' * U) + b * U * (a' * U)) w
+        → Close u v ((a * a' + b * b') * U * U) ((a * b' + b * a') * U * U) w
     second u v w c = (omega (arith, c .0), omega (arith, c .1))
 
-    room : (M * e' + M' * e + e * e') * (q * q') ≤ X * U * (q * q') → r * U * (q * q') + (M * q * (e' * q') + M' * q' * (e * q) + e * q * (e' * q')) ≤ (r + X) * (q * q') * U
+    room : (M * e' + M' * e + e * e') * (q * q') ≤ X * U * (q * q')
+        → r * U * (q * q') + (M * q * (e' * q') + M' * q' * (e * q) + e * q * (e' * q')) ≤ (r + X) * (q * q') * U
     room g = omega arith
 
-over-div : (n U : ℕ) → 0 < U → n ≤ (n / U + 1) * U
+pub over-div : (n U : ℕ) → 0 < U → n ≤ (n / U + 1) * U
 over-div n U P =
     let a : n / U * U + n % U ≡ n = div-add-mod' n U in
     let b : n % U < U = mod-lt n P in
@@ -199,13 +210,16 @@ pub held-mul : {f : Format} {x x' : Float} {y y' : Fraction} {M e M' e' : ℕ} �
     → Held f (mul f x x') (times y y') (product-size f M M') (product-error f M e M' e')
 held-mul {f} {x} {x'} {y} {y'} {M} {e} {M'} {e'} h k o =
     let U = 2 ^ low f in
-    let r = mul-near f x x' (h .sign) (k .sign) (h .size) (k .size) (product f M M') (h .value) (k .value) (le-trans (mul-le-mul (h .small) (k .small)) (over-div (M * M') U (pow-pos (low f)))) o in
+    let r = mul-near f x x' (h .sign) (k .sign) (h .size) (k .size) (product f M M') (h .value) (k .value)
+    (le-trans (mul-le-mul (h .small) (k .small)) (over-div (M * M') U (pow-pos (low f)))) o in
     record {
       sign = r .sign;
       size = r .size;
       value = r .value;
       small = r .small;
-      near = mul-arith (pl (h .sign) (h .size)) (mi (h .sign) (h .size)) (y .scale) (y .over) (y .under) e M (pl (k .sign) (k .size)) (mi (k .sign) (k .size)) (y' .scale) (y' .over) (y' .under) e' M'
+      near = mul-arith (pl (h .sign) (h .size)) (mi (h .sign) (h .size)) (y .scale) (y .over) (y .under) e M (pl (k .sign) (k .size)) (mi (k .sign) (k .size))
+          (y' .scale) (y' .over) (y' .under) e' M'
           (pl (r .sign) (r .size)) (mi (r .sign) (r .size)) (slack f (product f M M')) (cross f M e M' e') U (pow-pos (low f))
-          (spread (h .sign) (h .size) M (h .small)) (spread (k .sign) (k .size) M' (k .small)) (h .near) (k .near) (r .near) (over-div (M * e' + M' * e + e * e') U (pow-pos (low f)));
+          (spread (h .sign) (h .size) M (h .small)) (spread (k .sign) (k .size) M' (k .small)) (h .near) (k .near) (r .near)
+          (over-div (M * e' + M' * e + e * e') U (pow-pos (low f)));
     }

@@ -1,7 +1,13 @@
 pub mod Round
 pub mod Ops
 pub mod Errors
-pub mod Bound
+pub mod Near
+pub mod Ranges
+pub mod Quotient
+pub mod Root
+pub mod Expressions
+pub mod BoundBySize
+pub mod BoundByRange
 pub mod Powers
 pub mod Compare
 pub mod Whole

@@ -92,7 +92,8 @@ right-le v w B h = omega arith
 abbrev Exact+ : (f : Format) → Float → ℕ → Bool → ℕ → Bool → ℕ → Type 0
 Exact+ f x B s v t w = Result f x B 1 (pl s v + pl t w) (mi s v + mi t w)
 
-sum-near : (f : Format) (s : Bool) (a : ℕ) (t : Bool) (b c v w B : ℕ) → 0 < c → a * 2 ^ low f ≡ v * c → b * 2 ^ low f ≡ w * c → v + w ≤ B → B + slack f B < overflow f
+sum-near : (f : Format) (s : Bool) (a : ℕ) (t : Bool) (b c v w B : ℕ) → 0 < c → a * 2 ^ low f ≡ v * c → b * 2 ^ low f ≡ w * c → v + w ≤ B
+    → B + slack f B < overflow f
     → Exact+ f (sum f s a t b c) B s v t w
 unfolding sum
 sum-near f false a false b c v w B C p q l o =
@@ -155,19 +156,23 @@ sum-near f true a false b c v w B C p q l o = go (ltb a b) (ltb→lt a b) (nltb�
         record { sign = false; size = r .size; value = r .value; small = r .small; near = fit1 (r .size) (slack f B) (r .above) (r .below) }
     go false y n = inner (ltb b a) (n tt) (nltb→le b a)
 
-add-fin : (f : Format) (s : Bool) (m : ℕ) (e : ℤ) (t : Bool) (n : ℕ) (d : ℤ) → add f (fin s m e) (fin t n d) ≡ sum f s (m * up e * down d) t (n * up d * down e) (down e * down d)
+add-fin : (f : Format) (s : Bool) (m : ℕ) (e : ℤ) (t : Bool) (n : ℕ) (d : ℤ)
+    → add f (fin s m e) (fin t n d) ≡ sum f s (m * up e * down d) t (n * up d * down e) (down e * down d)
 unfolding add
 add-fin f s m e t n d = refl
 
-pub add-near : (f : Format) (x y : Float) (s t : Bool) (v w B : ℕ) → HasValue x s v (2 ^ low f) → HasValue y t w (2 ^ low f) → v + w ≤ B → B + slack f B < overflow f
+pub add-near : (f : Format) (x y : Float) (s t : Bool) (v w B : ℕ) → HasValue x s v (2 ^ low f) → HasValue y t w (2 ^ low f) → v + w ≤ B
+    → B + slack f B < overflow f
     → Result f (add f x y) B 1 (pl s v + pl t w) (mi s v + mi t w)
 add-near f x y s t v w B h k l o =
     let a = parts x s v (2 ^ low f) h in
     let b = parts y t w (2 ^ low f) k in
     subst₂ (λ (x y : Float). Exact+ f (add f x y) B s v t w) (sym (a .is)) (sym (b .is))
     (subst (λ (z : Float). Exact+ f z B s v t w) (sym (add-fin f s (a .m) (a .e) t (b .m) (b .e)))
-    (sum-near f s (a .m * up (a .e) * down (b .e)) t (b .m * up (b .e) * down (a .e)) (down (a .e) * down (b .e)) v w B (mul-pos (down-pos (a .e)) (down-pos (b .e)))
-    (over (a .m * up (a .e)) (down (a .e)) (down (b .e)) v (2 ^ low f) (a .val)) (over' (b .m * up (b .e)) (down (b .e)) (down (a .e)) w (2 ^ low f) (b .val)) l o))
+    (sum-near f s (a .m * up (a .e) * down (b .e)) t (b .m * up (b .e) * down (a .e)) (down (a .e) * down (b .e)) v w B
+    (mul-pos (down-pos (a .e)) (down-pos (b .e)))
+    (over (a .m * up (a .e)) (down (a .e)) (down (b .e)) v (2 ^ low f) (a .val)) (over' (b .m * up (b .e)) (down (b .e)) (down (a .e)) w (2 ^ low f) (b .val))
+    l o))
   where
     over : (X dx dy v U : ℕ) → X * U ≡ v * dx → X * dy * U ≡ v * (dx * dy)
     over X dx dy v U e = let g : X * U * dy ≡ v * dx * dy = ap (λ (z : ℕ). z * dy) e in omega arith
@@ -176,7 +181,8 @@ add-near f x y s t v w B h k l o =
     over' X dx dy v U e = let g : X * U * dy ≡ v * dx * dy = ap (λ (z : ℕ). z * dy) e in omega arith
 
 -- ---- the product
-mul-fin : (f : Format) (s : Bool) (m : ℕ) (e : ℤ) (t : Bool) (n : ℕ) (d : ℤ) → mul f (fin s m e) (fin t n d) ≡ round f (unlike s t) (m * up e * (n * up d)) (down e * down d)
+mul-fin : (f : Format) (s : Bool) (m : ℕ) (e : ℤ) (t : Bool) (n : ℕ) (d : ℤ)
+    → mul f (fin s m e) (fin t n d) ≡ round f (unlike s t) (m * up e * (n * up d)) (down e * down d)
 unfolding mul
 mul-fin f s m e t n d = refl
 
@@ -214,7 +220,8 @@ mul-below z n c U P r C e h = le-of-mul-le-mul-right (go (mul-le-mul-right U h))
     go : n * U * U ≤ (z * c + r * c) * U → P * c ≤ (z * U + r * U) * c
     go h = omega arith
 
-pub mul-near : (f : Format) (x y : Float) (s t : Bool) (v w B : ℕ) → HasValue x s v (2 ^ low f) → HasValue y t w (2 ^ low f) → v * w ≤ B * 2 ^ low f → B + slack f B < overflow f
+pub mul-near : (f : Format) (x y : Float) (s t : Bool) (v w B : ℕ) → HasValue x s v (2 ^ low f) → HasValue y t w (2 ^ low f) → v * w ≤ B * 2 ^ low f
+    → B + slack f B < overflow f
     → Result f (mul f x y) B (2 ^ low f) (pl s v * pl t w + mi s v * mi t w) (pl s v * mi t w + mi s v * pl t w)
 mul-near f x y s t v w B h k l o =
     let U = 2 ^ low f in
@@ -232,5 +239,6 @@ mul-near f x y s t v w B h k l o =
       size = r .size;
       value = r .value;
       small = r .small;
-      near = signs s t (r .size) v w U (slack f B) (mul-above (r .size) n c U (v * w) (slack f B) C e (r .above)) (mul-below (r .size) n c U (v * w) (slack f B) C e (r .below));
+      near = signs s t (r .size) v w U (slack f B) (mul-above (r .size) n c U (v * w) (slack f B) C e (r .above))
+          (mul-below (r .size) n c U (v * w) (slack f B) C e (r .below));
     }))

@@ -13,10 +13,12 @@ use lib.Ieee.{Float, binary64, add, mul}
 use Rattle.common.specs.Sum.{rawTotal, every}
 use Rattle.common.proofs.Sums.{both-left, both-right}
 use Rattle.rules.specs.Power.{one, odd}
-use Rattle.rules.specs.RawPower.{times, rawHigherBits, rawPower}
+use Rattle.rules.specs.Product.{times}
+use Rattle.rules.specs.RawPower.{rawHigherBits, rawPower}
 use Rattle.rounding.specs.Fraction.{Fraction, ratio, sumOver}
-use Rattle.rounding.proofs.Errors as fractions
-use Rattle.rounding.proofs.Bound.{Ex, con, sum, product, float, exact, Same}
+use Rattle.rounding.specs.Arithmetic as fractions
+use Rattle.rounding.proofs.Near.{Same}
+use Rattle.rounding.proofs.Expressions.{Ex, con, sum, product, float, exact}
 
 -- ---- the power
 
@@ -37,26 +39,26 @@ unfoldable pub power-ex : Ex → ℕ → Ex
 unfolding higher-ex
 power-ex a n = higher-ex 31 (eqb (n / 2) 0) (times-ex (odd n) one-ex a) a (n / 2)
 
-times-float : (x : Float) (b : Bool) (r a : Ex) → float binary64 x (times-ex b r a) ≡ times b (float binary64 x r) (float binary64 x a)
+times-float : (x : ℕ → Float) (b : Bool) (r a : Ex) → float x (times-ex b r a) ≡ times b (float x r) (float x a)
 unfolding float
 times-float x true r a = refl
 times-float x false r a = refl
 
-higher-float : (x : Float) (k : ℕ) (none : Bool) (r a : Ex) (h : ℕ) → float binary64 x (higher-ex k none r a h) ≡ rawHigherBits k none (float binary64 x r) (float binary64 x a) h
+higher-float : (x : ℕ → Float) (k : ℕ) (none : Bool) (r a : Ex) (h : ℕ) → float x (higher-ex k none r a h) ≡ rawHigherBits k none (float x r) (float x a) h
 unfolding higher-ex rawHigherBits float
 higher-float x zero none r a h = refl
 higher-float x (suc k) true r a h = refl
 higher-float x (suc k) false r a h =
     higher-float x k (eqb (h / 2) 0) (times-ex (odd h) r (product a a)) (product a a) (h / 2)
-    ∙ ap (λ (z : Float). rawHigherBits k (eqb (h / 2) 0) z (mul binary64 (float binary64 x a) (float binary64 x a)) (h / 2)) (times-float x (odd h) r (product a a))
+    ∙ ap (λ (z : Float). rawHigherBits k (eqb (h / 2) 0) z (mul binary64 (float x a) (float x a)) (h / 2)) (times-float x (odd h) r (product a a))
 
-pub power-float : (x : Float) (a : Ex) (n : ℕ) → float binary64 x (power-ex a n) ≡ rawPower (float binary64 x a) (pos n)
+pub power-float : (x : ℕ → Float) (a : Ex) (n : ℕ) → float x (power-ex a n) ≡ rawPower (float x a) (pos n)
 unfolding power-ex rawPower
 power-float x a n =
     higher-float x 31 (eqb (n / 2) 0) (times-ex (odd n) one-ex a) a (n / 2)
-    ∙ ap (λ (z : Float). rawHigherBits 31 (eqb (n / 2) 0) z (float binary64 x a) (n / 2)) (times-float x (odd n) one-ex a ∙ first)
+    ∙ ap (λ (z : Float). rawHigherBits 31 (eqb (n / 2) 0) z (float x a) (n / 2)) (times-float x (odd n) one-ex a ∙ first)
   where
-    first : times (odd n) (float binary64 x one-ex) (float binary64 x a) ≡ times (odd n) one (float binary64 x a)
+    first : times (odd n) (float x one-ex) (float x a) ≡ times (odd n) one (float x a)
     first = unfold float in refl
 
 -- ---- and exactly
@@ -78,14 +80,17 @@ half-pow A n =
     halves n = omega arith
 
 ratio-times : (a q a' q' : ℕ) → fractions.times (ratio a q) (ratio a' q') ≡ ratio (a * a') (q * q')
-ratio-times a q a' q' = ap₂ (λ (x y : ℕ). record { over = x; under = y; scale = q * q' }) (add-zero (a * a')) (ap₂ (λ (x y : ℕ). x + y) (mul-zero a) (zero-mul a'))
+ratio-times a q a' q' =
+    ap₂ (λ (x y : ℕ). record { over = x; under = y; scale = q * q' }) (add-zero (a * a')) (ap₂ (λ (x y : ℕ). x + y) (mul-zero a) (zero-mul a'))
 
-module _ (y : Fraction) where
-  product-exact : (s t : Ex) {a q a' q' : ℕ} → exact y s ≡ ratio a q → exact y t ≡ ratio a' q' → exact y (product s t) ≡ ratio (a * a') (q * q')
+module _ (depth : ℕ) (y : ℕ → Fraction) where
+  product-exact : (s t : Ex) {a q a' q' : ℕ} → exact depth y s ≡ ratio a q → exact depth y t ≡ ratio a' q'
+      → exact depth y (product s t) ≡ ratio (a * a') (q * q')
   unfolding exact
   product-exact s t {a} {q} {a'} {q'} h k = ap₂ fractions.times h k ∙ ratio-times a q a' q'
 
-  times-exact : (r a : Ex) (R S A B m : ℕ) → m < 2 → exact y r ≡ ratio R S → exact y a ≡ ratio A B → exact y (times-ex (eqb m 1) r a) ≡ ratio (R * A ^ m) (S * B ^ m)
+  times-exact : (r a : Ex) (R S A B m : ℕ) → m < 2 → exact depth y r ≡ ratio R S → exact depth y a ≡ ratio A B
+      → exact depth y (times-ex (eqb m 1) r a) ≡ ratio (R * A ^ m) (S * B ^ m)
   times-exact r a R S A B zero l h k = h ∙ sym (ap₂ ratio (nothing R A) (nothing S B))
     where
       nothing : (R A : ℕ) → R * A ^ 0 ≡ R
@@ -96,8 +101,8 @@ module _ (y : Fraction) where
       once R A = ap (λ (x : ℕ). R * x) (pow-suc A 0 ∙ ap (λ (x : ℕ). x * A) (pow-zero A) ∙ one-mul A)
   times-exact r a R S A B (suc (suc m)) l h k = absurd (omega arith)
 
-  higher-exact : (r a : Ex) (k : ℕ) (none : Bool) (R S A B h : ℕ) → eqb h 0 ≡ none → h < 2 ^ k → exact y r ≡ ratio R S → exact y a ≡ ratio A B
-      → exact y (higher-ex k none r a h) ≡ ratio (R * (A * A) ^ h) (S * (B * B) ^ h)
+  higher-exact : (r a : Ex) (k : ℕ) (none : Bool) (R S A B h : ℕ) → eqb h 0 ≡ none → h < 2 ^ k → exact depth y r ≡ ratio R S → exact depth y a ≡ ratio A B
+      → exact depth y (higher-ex k none r a h) ≡ ratio (R * (A * A) ^ h) (S * (B * B) ^ h)
   unfolding higher-ex
   higher-exact r a zero none R S A B h e l p q = p ∙ sym (ap₂ ratio (stop R A h (below h l)) (stop S B h (below h l)))
     where
@@ -115,7 +120,8 @@ module _ (y : Fraction) where
       stop R A h z = ap (λ (x : ℕ). R * (A * A) ^ x) z ∙ ap (λ (x : ℕ). R * x) (pow-zero (A * A)) ∙ mul-one R
   higher-exact r a (suc k) false R S A B h e l p q =
       let a2 = product-exact a a q q in
-      higher-exact (times-ex (odd h) r (product a a)) (product a a) k (eqb (h / 2) 0) (R * (A * A) ^ (h % 2)) (S * (B * B) ^ (h % 2)) (A * A) (B * B) (h / 2) refl (smaller h k l) (times-exact r (product a a) R S (A * A) (B * B) (h % 2) (below-two h) p a2) a2
+      higher-exact (times-ex (odd h) r (product a a)) (product a a) k (eqb (h / 2) 0) (R * (A * A) ^ (h % 2)) (S * (B * B) ^ (h % 2)) (A * A) (B * B) (h / 2)
+      refl (smaller h k l) (times-exact r (product a a) R S (A * A) (B * B) (h % 2) (below-two h) p a2) a2
       ∙ ap₂ ratio (turn R A) (turn S B)
     where
       below-two : (n : ℕ) → n % 2 < 2
@@ -127,10 +133,11 @@ module _ (y : Fraction) where
       turn : (R A : ℕ) → R * (A * A) ^ (h % 2) * (A * A * (A * A)) ^ (h / 2) ≡ R * (A * A) ^ h
       turn R A = mul-assoc R ((A * A) ^ (h % 2)) ((A * A * (A * A)) ^ (h / 2)) ∙ ap (λ (x : ℕ). R * x) (sym (half-pow (A * A) h))
 
-  pub power-exact : (a : Ex) (A B n : ℕ) → n < 2 ^ 32 → exact y a ≡ ratio A B → exact y (power-ex a n) ≡ ratio (A ^ n) (B ^ n)
+  pub power-exact : (a : Ex) (A B n : ℕ) → n < 2 ^ 32 → exact depth y a ≡ ratio A B → exact depth y (power-ex a n) ≡ ratio (A ^ n) (B ^ n)
   unfolding power-ex
   power-exact a A B n l q =
-      higher-exact (times-ex (odd n) one-ex a) a 31 (eqb (n / 2) 0) (1 * A ^ (n % 2)) (1 * B ^ (n % 2)) A B (n / 2) refl (half n 31 l) (times-exact one-ex a 1 1 A B (n % 2) (below-two n) (unfold exact in refl) q) q
+      higher-exact (times-ex (odd n) one-ex a) a 31 (eqb (n / 2) 0) (1 * A ^ (n % 2)) (1 * B ^ (n % 2)) A B (n / 2) refl (half n 31 l)
+      (times-exact one-ex a 1 1 A B (n % 2) (below-two n) (unfold exact in refl) q) q
       ∙ ap₂ ratio (turn A) (turn B)
     where
       below-two : (n : ℕ) → n % 2 < 2
@@ -164,21 +171,28 @@ module _ {R : Type 0} (term : R → Ex) where
   sum-ex s (r ∷ rs) = sum-ex (sum s (term r)) rs
 
   -- where each term is the raw term of a row
-  pub sum-float : {S : Type 0} (u : S → Float) (g : R → S) (x : Float) → ((r : R) → float binary64 x (term r) ≡ u (g r)) → (s : Ex) (rs : List R) → float binary64 x (sum-ex s rs) ≡ rawTotal u (float binary64 x s) (map g rs)
+  pub sum-float : {S : Type 0} (u : S → Float) (g : R → S) (x : ℕ → Float) → ((r : R) → float x (term r) ≡ u (g r)) → (s : Ex) (rs : List R)
+      → float x (sum-ex s rs) ≡ rawTotal u (float x s) (map g rs)
   unfolding sum-ex rawTotal float
   sum-float u g x e s [] = refl
-  sum-float u g x e s (r ∷ rs) = sum-float u g x e (sum s (term r)) rs ∙ ap (λ (z : Float). rawTotal u (add binary64 (float binary64 x s) z) (map g rs)) (e r)
+  sum-float u g x e s (r ∷ rs) = sum-float u g x e (sum s (term r)) rs ∙ ap (λ (z : Float). rawTotal u (add binary64 (float x s) z) (map g rs)) (e r)
 
   -- where each term is (a - b) / S
-  pub sum-same : (y : Fraction) (a b : R → ℕ) (S : ℕ) (f : R → Bool) → ((r : R) → T (f r) → Same (exact y (term r)) (record { over = a r; under = b r; scale = S }))
-      → (s : Ex) (A B : ℕ) → Same (exact y s) (record { over = A; under = B; scale = S }) → (rs : List R) → T (every f rs)
-      → Same (exact y (sum-ex s rs)) (record { over = A + sumOver a rs; under = B + sumOver b rs; scale = S })
+  pub sum-same : (depth : ℕ) (y : ℕ → Fraction) (a b : R → ℕ) (S : ℕ) (f : R → Bool)
+      → ((r : R) → T (f r) → Same (exact depth y (term r)) (record { over = a r; under = b r; scale = S }))
+      → (s : Ex) (A B : ℕ) → Same (exact depth y s) (record { over = A; under = B; scale = S }) → (rs : List R) → T (every f rs)
+      → Same (exact depth y (sum-ex s rs)) (record { over = A + sumOver a rs; under = B + sumOver b rs; scale = S })
   unfolding sum-ex sumOver every exact
-  sum-same y a b S f e s A B h [] t = subst (λ (z : ℕ). Same (exact y s) (record { over = z; under = B + 0; scale = S })) (sym (add-zero A)) (subst (λ (z : ℕ). Same (exact y s) (record { over = A; under = z; scale = S })) (sym (add-zero B)) h)
-  sum-same y a b S f e s A B h (r ∷ rs) t =
-      let g = sum-same y a b S f e (sum s (term r)) (A + a r) (B + b r) (same-plus h (e r (both-left (f r) (every f rs) t))) rs (both-right (f r) (every f rs) t) in
-      subst (λ (z : ℕ). Same (exact y (sum-ex (sum s (term r)) rs)) (record { over = z; under = B + (b r + sumOver b rs); scale = S })) (assoc A (a r) (sumOver a rs))
-      (subst (λ (z : ℕ). Same (exact y (sum-ex (sum s (term r)) rs)) (record { over = A + a r + sumOver a rs; under = z; scale = S })) (assoc B (b r) (sumOver b rs)) g)
+  sum-same depth y a b S f e s A B h [] t =
+      subst (λ (z : ℕ). Same (exact depth y s) (record { over = z; under = B + 0; scale = S })) (sym (add-zero A))
+      (subst (λ (z : ℕ). Same (exact depth y s) (record { over = A; under = z; scale = S })) (sym (add-zero B)) h)
+  sum-same depth y a b S f e s A B h (r ∷ rs) t =
+      let g = sum-same depth y a b S f e (sum s (term r)) (A + a r) (B + b r) (same-plus h (e r (both-left (f r) (every f rs) t))) rs
+      (both-right (f r) (every f rs) t) in
+      subst (λ (z : ℕ). Same (exact depth y (sum-ex (sum s (term r)) rs)) (record { over = z; under = B + (b r + sumOver b rs); scale = S }))
+      (assoc A (a r) (sumOver a rs))
+      (subst (λ (z : ℕ). Same (exact depth y (sum-ex (sum s (term r)) rs)) (record { over = A + a r + sumOver a rs; under = z; scale = S }))
+      (assoc B (b r) (sumOver b rs)) g)
     where
       assoc : (x y z : ℕ) → x + y + z ≡ x + (y + z)
       assoc x y z = omega arith

@@ -1,5 +1,5 @@
--- How far `round` moves a fraction. In units of the format's smallest value, 2 ^ -low, the fraction is n / den and the rounded value is the whole number `grid`:
--- they differ by at most n / den / 2 ^ prec + 1 / 2. Assumes nothing.
+-- How far `round` moves a fraction. In units of the format's smallest value, 2 ^ -low, the fraction is n / den and the rounded value is the whole
+-- number `grid`: they differ by at most n / den / 2 ^ prec + 1 / 2. Assumes nothing.
 use mathlib.Core.Path.{_≡_, refl, sym, ap, subst}
 use Prim.Native.Nat.{ℕ, zero, suc, _+_, _-_, _*_, _/_, _%_, _^_, _≤_, _<_, compare, Ordering, Ordering·lt, Ordering·eq, Ordering·gt}
 use native.Mathlib.Nat.{mul-le-mul-right, mod-lt, div-add-mod', le-div-iff-mul-le, mul-pos, le-of-mul-le-mul-right, lt-of-le-of-lt}
@@ -100,7 +100,8 @@ whole-pos f = mul-pos (le-div-iff-mul-le (pow-pos 0) .1 zero-lt) (pow-pos (prec 
     zero-lt : 1 * 1 ≤ 2
     zero-lt = omega arith
 
-cancel : (g c n W H B r : ℕ) → 0 < W → n ≤ B * c → B + H ≤ r * W → g * c * W ≤ n * W + (n + H * c) → n * W ≤ g * c * W + (n + H * c) → (g * c ≤ n + r * c) × (n ≤ g * c + r * c)
+cancel : (g c n W H B r : ℕ) → 0 < W → n ≤ B * c → B + H ≤ r * W → g * c * W ≤ n * W + (n + H * c) → n * W ≤ g * c * W + (n + H * c)
+    → (g * c ≤ n + r * c) × (n ≤ g * c + r * c)
 cancel g c n W H B r P b k h l =
     let m : (B + H) * c ≤ r * W * c = mul-le-mul-right c k in
     let x : g * c * W ≤ (n + r * c) * W = omega arith in
@@ -111,13 +112,16 @@ grid-within : (f : Format) (a c B : ℕ) → 0 < c → a * 2 ^ low f ≤ B * c
     → (grid f a c * c ≤ a * 2 ^ low f + slack f B * c) × (a * 2 ^ low f ≤ grid f a c * c + slack f B * c)
 grid-within f a c B C b =
     let g = grid-near f a c C in
-    cancel (grid f a c) c (a * 2 ^ low f) (whole f) (2 ^ (prec f - 1)) B (slack f B) (whole-pos f) b (enough B (whole f) (2 ^ (prec f - 1)) (whole-pos f) refl) (g .0) (g .1)
+    cancel (grid f a c) c (a * 2 ^ low f) (whole f) (2 ^ (prec f - 1)) B (slack f B) (whole-pos f) b (enough B (whole f) (2 ^ (prec f - 1)) (whole-pos f) refl)
+    (g .0) (g .1)
 
 under : (g c n B r : ℕ) → 0 < c → n ≤ B * c → g * c ≤ n + r * c → g ≤ B + r
 under g c n B r C b h = le-of-mul-le-mul-right (omega arith) C
 
 round-val : (f : Format) (s : Bool) (a c : ℕ) → grid f a c < overflow f → HasValue (round f s a c) s (grid f a c) (2 ^ low f)
-round-val f s a c h = subst (λ (z : Float). HasValue z s (grid f a c) (2 ^ low f)) (sym (round-is f s a c)) (units-val f s (kept (prec f) (a * 2 ^ low f) c) (drop (prec f) (a * 2 ^ low f) c) h)
+round-val f s a c h =
+    subst (λ (z : Float). HasValue z s (grid f a c) (2 ^ low f)) (sym (round-is f s a c))
+    (units-val f s (kept (prec f) (a * 2 ^ low f) c) (drop (prec f) (a * 2 ^ low f) c) h)
 
 -- `round` of a fraction of at most B units is finite, of the sign asked for, and of `size` units
 pub record Rounded (f : Format) (s : Bool) (a c B : ℕ) : Type 0 where

@@ -2,7 +2,8 @@
 -- Assumes nothing.
 use mathlib.Core.Path.{_≡_, refl, sym, ap, _∙_, subst}
 use Prim.Native.Nat.{ℕ, zero, suc, _+_, _-_, _*_, _/_, _%_, _^_, _≤_, _<_}
-use native.Mathlib.Nat.{le-trans, le-of-eq, not-le-of-lt, lt-of-not-le, mul-one, mul-assoc, mul-right-comm, mul-le-mul-right, div-one, mul-div-cancel}
+use native.Mathlib.Nat.{le-trans, le-of-eq, not-le-of-lt, lt-of-not-le, mul-one, mul-assoc, mul-right-comm, mul-le-mul-right, mul-le-mul-left}
+use native.Mathlib.Nat.{le-of-mul-le-mul-right, div-one, div-mul-le-self, mul-div-cancel}
 use native.Mathlib.Omega.{arith}
 use mathlib.Core.Bool.{Bool, true, false, _&&_}
 use lib.IntN.{ℤ, pos, negsuc}
@@ -15,7 +16,9 @@ use lib.Ieee.Positive.{num, den, den-pos, positive, le→cross, through}
 use Rattle.common.specs.Outcome.{finite}
 use Rattle.rounding.specs.Fraction.{ratio, scaledBy}
 use Rattle.rounding.proofs.Ops.{Close}
-use Rattle.rounding.proofs.Errors.{Held}
+use Rattle.rounding.proofs.Errors.{Held, over-div}
+use Rattle.rounding.proofs.Ranges.{In, tighten}
+use Rattle.rounding.proofs.BoundByRange.{Known, plain}
 
 digits-of : (s : Bool) (m : ℕ) (e : ℤ) → T (fits binary64 (fin s m e)) → m < 2 ^ 53
 unfolding fits
@@ -54,11 +57,13 @@ is-whole j n e (fin false m (negsuc k)) p t l =
     (refl, w ∙ sym (ap (λ (z : ℕ). z / D * D) w ∙ ap (λ (z : ℕ). z * D) (mul-div-cancel (m * 2 ^ (n - suc k)) (pow-pos (suc k)))))
 
 -- for an x from lo on, where lo is 2^j at least
-pub whole-from : (j n : ℕ) → j + n ≡ 52 → (lo x : Float) → T (positive lo) → T (positive x) → T (fits binary64 x) → T (leb (2 ^ j * den lo) (num lo * 1)) → T (le lo x) → HasValue x false (scaledBy n x) (2 ^ n)
+pub whole-from : (j n : ℕ) → j + n ≡ 52 → (lo x : Float) → T (positive lo) → T (positive x) → T (fits binary64 x) → T (leb (2 ^ j * den lo) (num lo * 1))
+    → T (le lo x) → HasValue x false (scaledBy n x) (2 ^ n)
 whole-from j n e lo x a b t g h =
-    is-whole j n e x b t (le-trans (through (2 ^ j) (num lo) (num x) 1 (den lo) (den x) (den-pos lo) (leb→le (2 ^ j * den lo) (num lo * 1) g) (le→cross lo x a b h)) (le-of-eq (mul-one (num x))))
+    is-whole j n e x b t (le-trans (through (2 ^ j) (num lo) (num x) 1 (den lo) (den x) (den-pos lo) (leb→le (2 ^ j * den lo) (num lo * 1) g)
+    (le→cross lo x a b h)) (le-of-eq (mul-one (num x))))
 
-value-scale : (k : ℕ) (x : Float) (s : Bool) (a c : ℕ) → HasValue x s a c → HasValue x s (a * k) (c * k)
+pub value-scale : (k : ℕ) (x : Float) (s : Bool) (a c : ℕ) → HasValue x s a c → HasValue x s (a * k) (c * k)
 value-scale k nan s a c h = h
 value-scale k (inf t) s a c h = h
 value-scale k (fin t m e) s a c h = (h .0, sym (mul-assoc (m * up e) c k) ∙ ap (λ (z : ℕ). z * k) (h .1) ∙ mul-right-comm a (down e) k)
@@ -78,6 +83,29 @@ held-value f x P Q k N e l h = record {
 
     equal : Close (P * k * Q) (0 * Q) (P * (Q * k)) (0 * (Q * k)) (0 * Q)
     equal = (omega arith, omega arith)
+
+-- the same with a range: from a / d to b / d, and exact
+pub known-between : (x : Float) (P Q k a b d : ℕ) → Q * k ≡ 2 ^ 1074 → 0 < Q → 0 < d → T (fits binary64 x) → HasValue x false P Q
+    → a * Q ≤ P * d → P * d ≤ b * Q → Known x (ratio P Q) (plain (a * 2 ^ 1074 / d) (b * 2 ^ 1074 / d + 1) 0)
+known-between x P Q k a b d e O D f h l m =
+    let i : In false (ratio P Q) (2 ^ 1074) (a * 2 ^ 1074 / d)
+    (b * 2 ^ 1074 / d + 1) = record { positive = O; least = least (2 ^ 1074); most = most (2 ^ 1074) } in
+    record { held = tighten (held-value binary64 x P Q k P e (more O) h) i; inside = i; fitted = f }
+  where
+    more : 0 < Q → P ≤ P * Q
+    more q = le-trans (le-of-eq (sym (mul-one P))) (mul-le-mul-left P q)
+
+    least : (U : ℕ) → a * U / d * Q + 0 * U ≤ P * U
+    least U = le-of-mul-le-mul-right (go (a * U / d) (mul-le-mul-right Q (div-mul-le-self (a * U) d)) (mul-le-mul-right U l)) D
+      where
+        go : (c : ℕ) → c * d * Q ≤ a * U * Q → a * Q * U ≤ P * d * U → (c * Q + 0 * U) * d ≤ P * U * d
+        go c y z = omega arith
+
+    most : (U : ℕ) → P * U ≤ (b * U / d + 1) * Q + 0 * U
+    most U = le-of-mul-le-mul-right (go (b * U / d) (mul-le-mul-right Q (over-div (b * U) d D)) (mul-le-mul-right U m)) D
+      where
+        go : (c : ℕ) → b * U * Q ≤ (c + 1) * d * Q → P * d * U ≤ b * Q * U → P * U * d ≤ ((c + 1) * Q + 0 * U) * d
+        go c y z = omega arith
 
 pub finite-value : (x : Float) (a c : ℕ) → HasValue x false a c → finite x ≡ true
 finite-value nan a c h = absurd h

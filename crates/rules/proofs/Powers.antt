@@ -15,7 +15,8 @@ use Rattle.common.specs.Outcome.{Outcome, finite, check, then}
 use Rattle.common.proofs.Laws.{Lost, never, mul-left, check-kept, step}
 use Rattle.sizes.specs.Lost.{subnormal, isZero, looked}
 use Rattle.rules.specs.Power.{one, odd, lowest, bits, checkPower, byBits, bySign, powerRule}
-use Rattle.rules.specs.RawPower.{taken, times, overBits, rawHigherBits, rawByBits, bySignOf, lookedPower}
+use Rattle.rules.specs.Product.{taken, times}
+use Rattle.rules.specs.RawPower.{overBits, rawHigherBits, rawByBits, bySignOf, lookedPower}
 
 -- ---- one look
 

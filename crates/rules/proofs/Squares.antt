@@ -14,7 +14,8 @@ use Rattle.common.specs.Outcome.{Outcome, value, finite, check, then}
 use Rattle.common.proofs.Laws.{Lost, next, check-lost, mul-left, mul-right}
 use Rattle.sizes.specs.Lost.{looked}
 use Rattle.rules.specs.Power.{one, odd, lowest, bits, checkPower, byBits}
-use Rattle.rules.specs.RawPower.{taken, overBits}
+use Rattle.rules.specs.Product.{taken}
+use Rattle.rules.specs.RawPower.{overBits}
 use Rattle.rules.proofs.Powers.{look-check, look-lost, bits-lost, bits-check}
 
 -- as `byBits`, where a lost x*x is refused too

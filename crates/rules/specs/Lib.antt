@@ -1,4 +1,5 @@
 pub mod Power
+pub mod Product
 pub mod RawPower
 pub mod Exp
 pub mod RawExp

@@ -10,19 +10,11 @@ use lib.Ieee.{Float, binary64, mul, div}
 use Rattle.common.specs.Formula.{lostOr}
 use Rattle.sizes.specs.Lost.{looked}
 use Rattle.rules.specs.Power.{one, odd, bits}
-
--- r*x as f leaves it, where the bit is set
-abbrev pub taken : (Float → Float) → Bool → Float → Float → Float
-taken f true r x = f (mul binary64 r x)
-taken f false r x = r
+use Rattle.rules.specs.Product.{taken, times}
 
 unfoldable pub overBits : (Float → Float) → Float → Float → List Bool → Float
 overBits f r x [] = r
 overBits f r x (bit ∷ higher) = overBits f (taken f bit r x) (mul binary64 x x) higher
-
--- r*x where the bit is set
-abbrev pub times : Bool → Float → Float → Float
-times = taken (λ r. r)
 
 -- From r and a on, with h the higher bits that remain and `none` saying that there are none: while some remain, a becomes a*a, and where the lowest is set
 -- r becomes r*a. The first argument bounds how many remain.

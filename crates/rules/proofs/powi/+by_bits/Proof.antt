@@ -9,7 +9,8 @@ use borrow.Author.Tests.{eq-eqb, ne-eqb}
 use borrow.Fn.Kinds.{In}
 use borrow.Fn.PlainCycle.{Measures, is, falls, and}
 use Rattle.rules.specs.Power.{odd, lowest}
-use Rattle.rules.specs.RawPower.{times, overBits}
+use Rattle.rules.specs.Product.{times}
+use Rattle.rules.specs.RawPower.{overBits}
 use Rattle.rules.proofs.Powers.{last, more}
 use Rattle.rules.proofs.powi.by_bits.Reads as by-bits
 use Rattle.rules.proofs.powi.by_bits.Kinds as by-bits-kinds

@@ -10,7 +10,8 @@ use borrow.Fn.Kinds.{In}
 use borrow.Fn.PlainCycle.{Measures, is, falls, and}
 use Rattle.sizes.specs.Lost.{looked}
 use Rattle.rules.specs.Power.{odd, lowest}
-use Rattle.rules.specs.RawPower.{taken, overBits}
+use Rattle.rules.specs.Product.{taken}
+use Rattle.rules.specs.RawPower.{overBits}
 use Rattle.rules.proofs.Powers.{last, more}
 use Rattle.rules.proofs.powi.looked_bits.Reads as looked-bits
 use Rattle.rules.proofs.powi.looked_bits.Kinds as looked-bits-kinds
