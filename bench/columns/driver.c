@@ -121,7 +121,7 @@ static void rows_to_compare(double *p, double *t, size n) {
         else if (kind < 5) anywhere(narrow, p + i, t + i);
         else if (kind == 5) {
             p[i] = further(23.0, whole(8) ? -some_units() : some_units());
-            t[i] = uniform(648.0, 653.0);
+            t[i] = uniform(649.4, 650.4);
         } else if (kind == 6) {
             byte letter = 'a' + whole(26);
             anywhere(whole(2) ? whole_box : narrow, p + i, t + i);

@@ -148,6 +148,7 @@ fn near_critical(p: f64, t: f64) -> u8 {
     }
 }
 
+#[inline(always)]
 fn letter(p: f64, t: f64) -> u8 {
     // p_saturation(643.15)
     const LIMIT: f64 = f64::from_bits(0x40350b1a1ee0b6d0);
@@ -249,8 +250,16 @@ fn equation(letter: u8) -> Equation {
     }
 }
 
-#[inline(always)]
 fn volume<const ONCE: bool>(p: f64, t: f64, letter: u8) -> f64 {
+    // one jump for each row: in an arm the letter is known
+    macro_rules! by_letter {
+        ($($known:literal)*) => { match letter { $($known => volume_of::<ONCE>(p, t, $known),)* _ => volume_of::<ONCE>(p, t, b'z') } };
+    }
+    by_letter!(b'a' b'b' b'c' b'd' b'e' b'f' b'g' b'h' b'i' b'j' b'k' b'l' b'm' b'n' b'o' b'p' b'q' b'r' b's' b't' b'u' b'v' b'w' b'x' b'y')
+}
+
+#[inline(always)]
+fn volume_of<const ONCE: bool>(p: f64, t: f64, letter: u8) -> f64 {
     let (rows, sum_once, ps, ts, vs, a, b) = equation(letter);
     let mut x = p / ps - a;
     let mut y = t / ts - b;
@@ -267,7 +276,8 @@ fn volume<const ONCE: bool>(p: f64, t: f64, letter: u8) -> f64 {
         looked_sum(x, y, rows)
     };
     match letter {
-        b'd' | b'f' | b'g' | b'h' | b'i' | b'j' | b'l' | b'q' | b's' | b'w' | b'y' | b'z' => looked_power(v, 4) * vs,
+        // a look at this power can be spared: where it is lost the density is infinite, which is 5 too
+        b'd' | b'f' | b'g' | b'h' | b'i' | b'j' | b'l' | b'q' | b's' | b'w' | b'y' | b'z' => power(v, 4) * vs,
         b'n' => exponential(v) * vs,
         _ => v * vs,
     }
