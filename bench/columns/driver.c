@@ -68,7 +68,8 @@ static double odd(int of_t) {
         {623.15, 863.15, 647.096, 643.15, 650.0, 640.0, 660.0, 670.0, 680.0, 663.0, 700.0, 760.0, 860.0},
     };
     static const size bits[10] = {
-        0x7ff8000000000000, 0xfff8000000000000, 0x7ff0000000000001, 0x7ff0000000000000, 0xfff0000000000000, 0, 0x8000000000000000, 1, 0x7fefffffffffffff, 0xc037000000000000,
+        0x7ff8000000000000, 0xfff8000000000000, 0x7ff0000000000001, 0x7ff0000000000000, 0xfff0000000000000, 0, 0x8000000000000000, 1,
+        0x7fefffffffffffff, 0xc037000000000000,
     };
     size kind = whole(8);
     if (kind == 0) return of_bits(bits[whole(10)]);
@@ -137,6 +138,15 @@ static void rows_to_compare(double *p, double *t, size n) {
     changes(p + even, t + even, n - even);
 }
 
+// Whether two sides answer the very same bytes in n rows from i on.
+static int equal(struct answers a, struct answers b, size i, size n) {
+    return !memcmp(a.letter + i, b.letter + i, n) && !memcmp(a.refusal + i, b.refusal + i, n) && !memcmp(a.density + i, b.density + i, 8 * n);
+}
+
+static void say(int side, struct answers a, size i, const char *end) {
+    printf(" %s letter %u density %016lx refusal %u%s", names[side], a.letter[i], bits_of(a.density[i]), a.refusal[i], end);
+}
+
 static int compare(size rows) {
     double *p = malloc(8 * rows), *t = malloc(8 * rows);
     struct answers a[3];
@@ -147,15 +157,16 @@ static int compare(size rows) {
     }
     size differ = 0, refused[256] = {0}, letters[256] = {0}, lost = 0, unfinite = 0, kinds = 0;
     for (size i = 0; i < rows; i++) {
-        refused[a[0].refusal[i]]++;
-        letters[a[0].letter[i]]++;
+        refused[a[PROVED].refusal[i]]++;
+        letters[a[PROVED].letter[i]]++;
         unfinite += p[i] - p[i] != 0.0 || t[i] - t[i] != 0.0;
-        lost += a[0].refusal[i] == 5 && p[i] < 23.0 && p[i] > 22.999;
+        lost += a[PROVED].refusal[i] == 5 && p[i] < 23.0 && p[i] > 22.999;
         for (int side = PLAIN; side <= ONCE; side++)
-            if (a[side].letter[i] != a[0].letter[i] || a[side].refusal[i] != a[0].refusal[i] || memcmp(a[side].density + i, a[0].density + i, 8) != 0)
-                if (differ++ < 10)
-                    printf("at p %016lx T %016lx: proved %c %016lx %u, %s %c %016lx %u\n", bits_of(p[i]), bits_of(t[i]), a[0].letter[i] ? a[0].letter[i] : '-',
-                           bits_of(a[0].density[i]), a[0].refusal[i], names[side], a[side].letter[i] ? a[side].letter[i] : '-', bits_of(a[side].density[i]), a[side].refusal[i]);
+            if (!equal(a[PROVED], a[side], i, 1) && differ++ < 10) {
+                printf("p %016lx T %016lx:", bits_of(p[i]), bits_of(t[i]));
+                say(PROVED, a[PROVED], i, ",");
+                say(side, a[side], i, "\n");
+            }
     }
     for (int letter = 'a'; letter <= 'z'; letter++) kinds += letters[letter] > 0;
     printf("compared, letter, density and refusal, byte by byte, with either form: rows %lu, differ %lu\n", rows, differ);
@@ -185,12 +196,14 @@ static const struct set { const char *name; int region3; const struct box *box; 
 };
 
 static int times(size rows, size repeats) {
-    double *p = malloc(8 * rows), *t = malloc(8 * rows), took[SIDES][64];
+    double *p = malloc(8 * rows), *t = malloc(8 * rows), took[SIDES][64], apart = 0.0;
     int same = 1;
+    size off = 0;
     if (repeats > 63) repeats = 63;
     if (repeats % 2 == 0) repeats++;
     printf("%lu rows a set, medians of %lu, processor time, ns a row; the ratios are of this library to each\n", rows, repeats);
-    printf("| rows | accepted | this library | plain Rust, powers term by term | powers once a base | untouched seuif97, density alone |\n|---|---|---|---|---|---|\n");
+    printf("| rows | accepted | this library | plain Rust, powers term by term | powers once a base | untouched seuif97, density alone |\n");
+    printf("|---|---|---|---|---|---|\n");
     for (const struct set *s = sets; s < sets + 4; s++) {
         struct answers a[SIDES];
         rows_to_time(*s->box, s->region3, p, t, rows);
@@ -203,9 +216,15 @@ static int times(size rows, size repeats) {
                 took[side][r] = (now() - before) / rows;
             }
         size accepted = 0;
-        for (size i = 0; i < rows; i++) accepted += a[0].refusal[i] == 0;
-        for (int side = PLAIN; side <= ONCE; side++)
-            same &= !memcmp(a[0].letter, a[side].letter, rows) && !memcmp(a[0].refusal, a[side].refusal, rows) && !memcmp(a[0].density, a[side].density, 8 * rows);
+        for (size i = 0; i < rows; i++)
+            if (a[PROVED].refusal[i] == 0) {
+                double by = a[UNTOUCHED].density[i] / a[PROVED].density[i] - 1.0;
+                if (by < 0.0) by = -by;
+                accepted++;
+                off += !(by < 0.01);
+                if (by > apart) apart = by;
+            }
+        same &= equal(a[PROVED], a[PLAIN], 0, rows) && equal(a[PROVED], a[ONCE], 0, rows);
         double ours = median(took[PROVED], repeats);
         printf("| %s | %.0f %% | %.1f |", s->name, 100.0 * accepted / rows, ours);
         for (int side = PLAIN; side < SIDES; side++) {
@@ -214,8 +233,10 @@ static int times(size rows, size repeats) {
         }
         printf("\n");
     }
-    printf("%s\n", same ? "bits equal in every row timed, both forms" : "BITS DIFFER in a row timed");
-    return !same;
+    printf(same ? "bits equal in every row timed, both forms" : "BITS DIFFER in a row timed");
+    printf("; seuif97's density, which is rounded otherwise, differs by at most %.1e of it\n", apart);
+    // a density further off than a percent is not seuif97's
+    return !same || off != 0;
 }
 
 static int calls(const char *name, size rows) {
