@@ -55,6 +55,8 @@ static long units_either_way(void) { return whole(2) ? some_units() : -some_unit
 struct box { double p0, p1, t0, t1; };
 static const struct box whole_box = {16.529, 100.0, 623.15, 863.15}, narrow = {21.0, 25.0, 640.0, 680.0};
 static const struct box around_whole_box = {16.4, 100.5, 622.0, 864.0}, around_narrow = {20.9, 25.1, 639.0, 681.0};
+// around 19.00881189173929, which is not the 19.0088 of the saturation line
+static const struct box around_19 = {19.0087, 19.0089, 630.0, 640.0};
 
 static void anywhere(struct box b, double *p, double *t) {
     *p = uniform(b.p0, b.p1);
@@ -84,7 +86,7 @@ static void changes(double *p, double *t, size n) {
     double *mid_p = malloc(8 * places), *mid_t = malloc(8 * places);
     struct answers low = room(places, 0), mid = room(places, 0);
     for (size i = 0; i < places; i++) {
-        struct box b = i % 4 < 2 ? around_whole_box : around_narrow;
+        struct box b = i % 16 < 2 ? around_19 : i % 4 < 2 ? around_whole_box : around_narrow;
         anywhere(b, low_p + i, low_t + i);
         anywhere(b, high_p + i, high_t + i);
         if (i % 2) high_p[i] = low_p[i];
