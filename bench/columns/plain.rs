@@ -1,5 +1,6 @@
 // The plain Rust that the column run is measured against: docs/SCOPE.md's rules on columns of p and T, raw f64, hardware root, one finiteness
-// test a row. Straight code for the boundaries, one generic sum over tables of rows, powers by the written rule.
+// test a row, boundaries worked only when they are reached. In two forms, which differ in the sums alone: one generic sum over tables of rows, each
+// power worked for its term; or straight code for each table, each power of a base worked once.
 #![allow(non_upper_case_globals)]
 
 mod tables {
@@ -11,10 +12,53 @@ type Row = (i32, i32, f64);
 include!("../power.rs");
 include!("../series.rs");
 
+// Whether no power from the -64th to the 64th can be lost: then |a|^64 lies from 2^-960 to 2^960.
+fn usual(a: f64) -> bool {
+    const LEAST: f64 = 1.0 / 32768.0;
+    (LEAST..=32768.0).contains(&a.abs())
+}
+
+// The power rule with its looks: a NaN where an r of a base that is not 0 is below the normal range.
+fn looked_power(a: f64, n: i32) -> f64 {
+    let lost = |r: f64| a != 0.0 && r.abs() < f64::MIN_POSITIVE;
+    let (mut r, mut b, mut k) = (1.0, a, n.unsigned_abs());
+    loop {
+        if k & 1 == 1 {
+            r *= b;
+            if lost(r) {
+                return f64::NAN;
+            }
+        }
+        k >>= 1;
+        if k == 0 {
+            break;
+        }
+        b *= b;
+    }
+    if n >= 0 {
+        return r;
+    }
+    r = 1.0 / r;
+    if lost(r) { f64::NAN } else { r }
+}
+
+// Each power worked for its term.
 fn sum(x: f64, y: f64, rows: &[Row]) -> f64 {
+    if !usual(x) || !usual(y) {
+        return looked_sum(x, y, rows);
+    }
     let mut v = 0.0;
     for &(i, j, n) in rows {
         v += n * power(x, i) * power(y, j);
+    }
+    v
+}
+
+#[cold]
+fn looked_sum(x: f64, y: f64, rows: &[Row]) -> f64 {
+    let mut v = 0.0;
+    for &(i, j, n) in rows {
+        v += n * looked_power(x, i) * looked_power(y, j);
     }
     v
 }
@@ -104,6 +148,7 @@ fn near_critical(p: f64, t: f64) -> u8 {
     }
 }
 
+#[inline(always)]
 fn letter(p: f64, t: f64) -> u8 {
     // p_saturation(643.15)
     const LIMIT: f64 = f64::from_bits(0x40350b1a1ee0b6d0);
@@ -169,41 +214,53 @@ fn letter(p: f64, t: f64) -> u8 {
     }
 }
 
-// A letter's table, with reducing pressure, temperature and volume and the two shifts.
-fn reduced(letter: u8) -> (&'static [Row], f64, f64, f64, f64, f64) {
+// One letter's equation: its table, that table's sum with powers worked once, reducing pressure, temperature and volume, and the two shifts.
+type Equation = (&'static [Row], fn(f64, f64) -> f64, f64, f64, f64, f64, f64);
+
+#[inline(always)]
+fn equation(letter: u8) -> Equation {
     use tables::*;
     match letter {
-        b'a' => (&A, 100.0, 760.0, 0.0024, 0.085, 0.817),
-        b'b' => (&B, 100.0, 860.0, 0.0041, 0.280, 0.779),
-        b'c' => (&C, 40.0, 690.0, 0.0022, 0.259, 0.903),
-        b'd' => (&D, 40.0, 690.0, 0.0029, 0.559, 0.939),
-        b'e' => (&E, 40.0, 710.0, 0.0032, 0.587, 0.918),
-        b'f' => (&F, 40.0, 730.0, 0.0064, 0.587, 0.891),
-        b'g' => (&G, 25.0, 660.0, 0.0027, 0.872, 0.971),
-        b'h' => (&H, 25.0, 660.0, 0.0032, 0.898, 0.983),
-        b'i' => (&I, 25.0, 660.0, 0.0041, 0.910, 0.984),
-        b'j' => (&J, 25.0, 670.0, 0.0054, 0.875, 0.964),
-        b'k' => (&K, 25.0, 680.0, 0.0077, 0.802, 0.935),
-        b'l' => (&L, 24.0, 650.0, 0.0026, 0.908, 0.989),
-        b'm' => (&M, 23.0, 650.0, 0.0028, 1.0, 0.997),
-        b'n' => (&N, 23.0, 650.0, 0.0031, 0.976, 0.997),
-        b'o' => (&O, 23.0, 650.0, 0.0034, 0.974, 0.996),
-        b'p' => (&P, 23.0, 650.0, 0.0041, 0.972, 0.997),
-        b'q' => (&Q, 23.0, 650.0, 0.0022, 0.848, 0.983),
-        b'r' => (&R, 23.0, 650.0, 0.0054, 0.874, 0.982),
-        b's' => (&S, 21.0, 640.0, 0.0022, 0.886, 0.990),
-        b't' => (&T, 20.0, 650.0, 0.0088, 0.803, 1.02),
-        b'u' => (&U, 23.0, 650.0, 0.0026, 0.902, 0.988),
-        b'v' => (&V, 23.0, 650.0, 0.0031, 0.960, 0.995),
-        b'w' => (&W, 23.0, 650.0, 0.0039, 0.959, 0.995),
-        b'x' => (&X, 23.0, 650.0, 0.0049, 0.910, 0.988),
-        b'y' => (&Y, 22.0, 650.0, 0.0031, 0.996, 0.994),
-        _ => (&Z, 22.0, 650.0, 0.0038, 0.993, 0.994),
+        b'a' => (&A, sum_a, 100.0, 760.0, 0.0024, 0.085, 0.817),
+        b'b' => (&B, sum_b, 100.0, 860.0, 0.0041, 0.280, 0.779),
+        b'c' => (&C, sum_c, 40.0, 690.0, 0.0022, 0.259, 0.903),
+        b'd' => (&D, sum_d, 40.0, 690.0, 0.0029, 0.559, 0.939),
+        b'e' => (&E, sum_e, 40.0, 710.0, 0.0032, 0.587, 0.918),
+        b'f' => (&F, sum_f, 40.0, 730.0, 0.0064, 0.587, 0.891),
+        b'g' => (&G, sum_g, 25.0, 660.0, 0.0027, 0.872, 0.971),
+        b'h' => (&H, sum_h, 25.0, 660.0, 0.0032, 0.898, 0.983),
+        b'i' => (&I, sum_i, 25.0, 660.0, 0.0041, 0.910, 0.984),
+        b'j' => (&J, sum_j, 25.0, 670.0, 0.0054, 0.875, 0.964),
+        b'k' => (&K, sum_k, 25.0, 680.0, 0.0077, 0.802, 0.935),
+        b'l' => (&L, sum_l, 24.0, 650.0, 0.0026, 0.908, 0.989),
+        b'm' => (&M, sum_m, 23.0, 650.0, 0.0028, 1.0, 0.997),
+        b'n' => (&N, sum_n, 23.0, 650.0, 0.0031, 0.976, 0.997),
+        b'o' => (&O, sum_o, 23.0, 650.0, 0.0034, 0.974, 0.996),
+        b'p' => (&P, sum_p, 23.0, 650.0, 0.0041, 0.972, 0.997),
+        b'q' => (&Q, sum_q, 23.0, 650.0, 0.0022, 0.848, 0.983),
+        b'r' => (&R, sum_r, 23.0, 650.0, 0.0054, 0.874, 0.982),
+        b's' => (&S, sum_s, 21.0, 640.0, 0.0022, 0.886, 0.990),
+        b't' => (&T, sum_t, 20.0, 650.0, 0.0088, 0.803, 1.02),
+        b'u' => (&U, sum_u, 23.0, 650.0, 0.0026, 0.902, 0.988),
+        b'v' => (&V, sum_v, 23.0, 650.0, 0.0031, 0.960, 0.995),
+        b'w' => (&W, sum_w, 23.0, 650.0, 0.0039, 0.959, 0.995),
+        b'x' => (&X, sum_x, 23.0, 650.0, 0.0049, 0.910, 0.988),
+        b'y' => (&Y, sum_y, 22.0, 650.0, 0.0031, 0.996, 0.994),
+        _ => (&Z, sum_z, 22.0, 650.0, 0.0038, 0.993, 0.994),
     }
 }
 
-fn volume(p: f64, t: f64, letter: u8) -> f64 {
-    let (rows, ps, ts, vs, a, b) = reduced(letter);
+fn volume<const ONCE: bool>(p: f64, t: f64, letter: u8) -> f64 {
+    // one jump for each row: in an arm the letter is known
+    macro_rules! by_letter {
+        ($($known:literal)*) => { match letter { $($known => volume_of::<ONCE>(p, t, $known),)* _ => volume_of::<ONCE>(p, t, b'z') } };
+    }
+    by_letter!(b'a' b'b' b'c' b'd' b'e' b'f' b'g' b'h' b'i' b'j' b'k' b'l' b'm' b'n' b'o' b'p' b'q' b'r' b's' b't' b'u' b'v' b'w' b'x' b'y')
+}
+
+#[inline(always)]
+fn volume_of<const ONCE: bool>(p: f64, t: f64, letter: u8) -> f64 {
+    let (rows, sum_once, ps, ts, vs, a, b) = equation(letter);
     let mut x = p / ps - a;
     let mut y = t / ts - b;
     match letter {
@@ -211,8 +268,15 @@ fn volume(p: f64, t: f64, letter: u8) -> f64 {
         b'm' => y = y.sqrt().sqrt(),
         _ => {}
     }
-    let v = sum(x, y, rows);
+    let v = if !ONCE {
+        sum(x, y, rows)
+    } else if usual(x) && usual(y) {
+        sum_once(x, y)
+    } else {
+        looked_sum(x, y, rows)
+    };
     match letter {
+        // a look at this power can be spared: where it is lost the density is infinite, which is 5 too
         b'd' | b'f' | b'g' | b'h' | b'i' | b'j' | b'l' | b'q' | b's' | b'w' | b'y' | b'z' => power(v, 4) * vs,
         b'n' => exponential(v) * vs,
         _ => v * vs,
@@ -220,7 +284,7 @@ fn volume(p: f64, t: f64, letter: u8) -> f64 {
 }
 
 // Letter, density and refusal of one row.
-fn row(p: f64, t: f64) -> (u8, f64, u8) {
+fn row<const ONCE: bool>(p: f64, t: f64) -> (u8, f64, u8) {
     if !p.is_finite() || !t.is_finite() {
         return (0, 0.0, 1);
     }
@@ -237,7 +301,7 @@ fn row(p: f64, t: f64) -> (u8, f64, u8) {
         (0, 1.0 / 322.0)
     } else {
         let l = letter(p, t);
-        (l, volume(p, t, l))
+        (l, volume::<ONCE>(p, t, l))
     };
     let d = 1.0 / v;
     if !v.is_finite() || !d.is_finite() {
@@ -249,14 +313,34 @@ fn row(p: f64, t: f64) -> (u8, f64, u8) {
     }
 }
 
-/// # Safety
-/// Each pointer has n elements behind it.
-#[no_mangle]
-pub unsafe extern "C" fn plain_columns(p: *const f64, t: *const f64, n: usize, letter: *mut u8, density: *mut f64, refusal: *mut u8) {
+unsafe fn columns<const ONCE: bool>(p: *const f64, t: *const f64, n: usize, letter: *mut u8, density: *mut f64, refusal: *mut u8) {
     for i in 0..n {
-        let (l, d, k) = row(*p.add(i), *t.add(i));
+        let (l, d, k) = row::<ONCE>(*p.add(i), *t.add(i));
         *letter.add(i) = l;
         *density.add(i) = d;
         *refusal.add(i) = k;
     }
+}
+
+/// Each power worked for its term.
+/// # Safety
+/// Each pointer has n elements behind it.
+#[no_mangle]
+pub unsafe extern "C" fn plain_columns(p: *const f64, t: *const f64, n: usize, letter: *mut u8, density: *mut f64, refusal: *mut u8) {
+    columns::<false>(p, t, n, letter, density, refusal)
+}
+
+/// Each power of a base worked once.
+/// # Safety
+/// Each pointer has n elements behind it.
+#[no_mangle]
+pub unsafe extern "C" fn once_columns(p: *const f64, t: *const f64, n: usize, letter: *mut u8, density: *mut f64, refusal: *mut u8) {
+    columns::<true>(p, t, n, letter, density, refusal)
+}
+
+/// Where the bases of a letter's table are 0, for rows made on purpose: its p, or its T.
+#[no_mangle]
+pub extern "C" fn zero_base(letter: u8, of_t: bool) -> f64 {
+    let (_, _, ps, ts, _, a, b) = equation(letter);
+    if of_t { ts * b } else { ps * a }
 }
