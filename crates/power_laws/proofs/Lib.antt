@@ -1,2 +1,5 @@
 pub mod Signs
 pub mod Inverses
+pub mod Bits
+pub mod Scales
+pub mod Doubling

@@ -101,13 +101,13 @@ inverse-turned (fin s m e) = rw (unlike-right false s) (go (eqb m 0))
 
 -- ---- one look
 
-finite-turned : (x : Float) → finite (neg x) ≡ finite x
+pub finite-turned : (x : Float) → finite (neg x) ≡ finite x
 unfolding neg
 finite-turned nan = refl
 finite-turned (inf s) = refl
 finite-turned (fin s m e) = refl
 
-zero-turned : (x : Float) → isZero (neg x) ≡ isZero x
+pub zero-turned : (x : Float) → isZero (neg x) ≡ isZero x
 unfolding neg
 zero-turned nan = refl
 zero-turned (inf s) = refl
@@ -120,7 +120,7 @@ check-turned false nan = refl
 check-turned false (inf s) = refl
 check-turned false (fin s m e) = refl
 
-subnormal-turned : (x : Float) → subnormal (neg x) ≡ subnormal x
+pub subnormal-turned : (x : Float) → subnormal (neg x) ≡ subnormal x
 unfolding neg
 subnormal-turned nan = refl
 subnormal-turned (inf s) = refl
