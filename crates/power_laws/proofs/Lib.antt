@@ -3,3 +3,4 @@ pub mod Inverses
 pub mod Bits
 pub mod Scales
 pub mod Doubling
+pub mod Doubles

@@ -1,0 +1,173 @@
+-- The doubling law on f64s: twice a number is exact where it is finite, and a power times 2^n is one f64. In order: a number of the format rounded again,
+-- 2^k times a number, twice a number, the law. Assumes nothing.
+use mathlib.Core.Path.{_≡_, refl, sym, ap, _∙_, subst}
+use mathlib.Core.Bool.{Bool, true, false, not, _&&_}
+use mathlib.Core.List.{List, [], _∷_}
+use Prim.Native.Nat.{ℕ, zero, suc, _+_, _-_, _*_, _%_, _^_, _≤_, _<_}
+use native.Mathlib.Nat.{le-trans, le-of-eq, lt-of-lt-of-le, lt-of-le-of-lt, lt-of-not-le, not-le-of-lt, mul-one, one-mul, zero-mul, mul-pos, mul-comm, mul-assoc, mul-right-comm, mul-left-comm, mul-le-mul-right, mul-lt-mul-of-pos-right, le-of-mul-le-mul-right, pow-suc}
+use native.Mathlib.Omega.{arith}
+use lib.Dec.{T, eqb, ltb, leb, ltb→lt, leb→le}
+use lib.IntN.{ℤ, pos, negsuc}
+use lib.Pow.{pow-add, pow-pos, pow-lt}
+use lib.Ieee.{Float, nan, inf, fin, binary64, up, down, size, round, mul, le, lt, eq, fits, unlike}
+use lib.Ieee.Fits.{and-l, and-r, down-pos, round-fits, mul-fits}
+use lib.Ieee.Exact.{HasValue, round-exact}
+use lib.Ieee.Order.{round-mono}
+use lib.Ieee.Scale.{round-same}
+use borrow.Author.Tests.{ltb-true, ltb-false}
+use Rattle.common.specs.Outcome.{value, finite}
+use Rattle.common.proofs.Laws.{never}
+use Rattle.sizes.proofs.Band.{round-size}
+use Rattle.rules.specs.Power.{one, bits, powerRule}
+use Rattle.rules.specs.RawPower.{times, overBits}
+use Rattle.rules.proofs.Rounds.{rescale}
+use Rattle.rules.proofs.Fields as fields
+use Rattle.power_laws.specs.Laws.{Scaled, twoTo, inRange, products}
+use Rattle.power_laws.proofs.Doubling.{Doubled, doubling}
+
+-- ---- a number of the format, in units of 2^-1074: m * 2^j
+
+record Parts (m : ℕ) (e : ℤ) : Type 0 where
+  shift : ℕ
+  exact : m * up e * 2 ^ 1074 ≡ m * 2 ^ shift * down e
+  few : m < 2 ^ 53
+  under : m * 2 ^ shift < 2 ^ 2098
+
+pow-le : (a l : ℕ) → 2 ^ a ≤ 2 ^ l → a ≤ l
+pow-le a l h = less (λ (g : l < a). not-le-of-lt (pow-lt g) h)
+  where
+    less : (l < a → ⊥) → a ≤ l
+    less f = omega (arith, f)
+
+shifted : (l : ℕ) (e : ℤ) → down e ≤ 2 ^ l → (j : ℕ) × (up e * 2 ^ l ≡ 2 ^ j * down e)
+shifted l (pos k) h = (k + l, sym (pow-add 2 k l) ∙ sym (mul-one (2 ^ (k + l))))
+shifted l (negsuc k) h =
+    let s : suc k ≤ l = pow-le (suc k) l h in
+    let e : l - suc k + suc k ≡ l = omega arith in
+    (l - suc k, one-mul (2 ^ l) ∙ sym (sym (pow-add 2 (l - suc k) (suc k)) ∙ ap (λ (x : ℕ). 2 ^ x) e))
+
+below : (a d l h q : ℕ) → 0 < d → 0 < l → a * l ≡ q * d → a < h * d → q < h * l
+below a d l h q p r e g =
+    lt-of-not-le (λ (z : h * l ≤ q).
+    not-le-of-lt (mul-lt-mul-of-pos-right g r)
+    (le-trans (le-of-eq (mul-right-comm h d l)) (le-trans (mul-le-mul-right d z) (le-of-eq (sym e)))))
+
+parts : (s : Bool) (m : ℕ) (e : ℤ) → T (fits binary64 (fin s m e)) → Parts m e
+unfolding fits
+parts s zero e h = record { shift = 0; exact = none (up e) (2 ^ 1074) (down e); few = pow-pos 53; under = pow-pos 2098 }
+  where
+    none : (u l d : ℕ) → 0 * u * l ≡ 0 * d
+    none u l d = ap (λ (x : ℕ). x * l) (zero-mul u) ∙ zero-mul l ∙ sym (zero-mul d)
+parts s (suc m) e h =
+    let o = eqb (suc m % 2) 1 in
+    let a = ltb (suc m) (2 ^ 53) in
+    let b = leb (down e) (2 ^ 1074) in
+    let c = ltb (suc m * up e) (2 ^ 1024 * down e) in
+    let top = ltb→lt (suc m * up e) (2 ^ 1024 * down e) (and-r (o && a && b) c h) in
+    let fine = leb→le (down e) (2 ^ 1074) (and-r (o && a) b (and-l (o && a && b) c h)) in
+    let z = shifted 1074 e fine in
+    let equal : suc m * up e * 2 ^ 1074 ≡ suc m * 2 ^ (z .0) * down e = mul-assoc (suc m) (up e) (2 ^ 1074) ∙ ap (λ (x : ℕ). suc m * x) (z .1) ∙ sym (mul-assoc (suc m) (2 ^ (z .0)) (down e)) in
+    record {
+      shift = z .0;
+      exact = equal;
+      few = ltb→lt (suc m) (2 ^ 53) (and-r o a (and-l (o && a) b (and-l (o && a && b) c h)));
+      under = below (suc m * up e) (down e) (2 ^ 1074) (2 ^ 1024) (suc m * 2 ^ (z .0)) (down-pos e) (pow-pos 1074) equal top;
+    }
+
+-- rounded again, it is itself
+again : (s : Bool) (m : ℕ) (e : ℤ) → T (fits binary64 (fin s m e)) → round binary64 s (m * up e) (down e) ≡ fin s m e
+again s m e h =
+    let p = parts s m e h in
+    let q = m * 2 ^ (p .shift) in
+    let v = round-exact binary64 s (m * up e) (down e) m (p .shift) (down-pos e) (p .few) (p .under) (p .exact) in
+    fields.same (round binary64 s (m * up e) (down e)) (fin s m e) s q (round-fits binary64 s (m * up e) (down e)) h
+    (rescale (round binary64 s (m * up e) (down e)) s (m * up e) (down e) q (2 ^ 1074) (down-pos e) (sym (p .exact)) v)
+    (refl, p .exact)
+
+-- ---- 2^k times a number
+
+pub as-product : (k : ℕ) (x y : Float) → T (fits binary64 y) → Scaled k x y → y ≡ mul binary64 x (twoTo k)
+unfolding mul
+as-product k nan y f u = absurd u
+as-product k (inf s) y f u = absurd u
+as-product k (fin s m e) nan f u = absurd u
+as-product k (fin s m e) (inf t) f u = absurd u
+as-product k (fin s m e) (fin t n d) f u =
+    sym (again t n d f)
+    ∙ ap (λ (z : Bool). round binary64 z (n * up d) (down d)) (u .0 ∙ own s)
+    ∙ round-same binary64 (unlike s false) (n * up d) (down d) (m * up e * (1 * 2 ^ k)) (down e * 1) (down-pos d) (rw (mul-one (down e)) (down-pos e))
+    (rw (mul-one (down e), one-mul (2 ^ k)) (u .1))
+  where
+    own : (s : Bool) → s ≡ unlike s false
+    own true = refl
+    own false = refl
+
+-- ---- twice a number
+
+two-of : (s : Bool) → unlike false s ≡ s
+two-of true = refl
+two-of false = refl
+
+beyond : (x : Float) → finite x ≡ true → T (le (inf false) x) → ⊥
+unfolding le lt eq
+beyond nan f t = never (sym f)
+beyond (inf s) f t = never (sym f)
+beyond (fin s m e) f t = t
+
+of-value : (s : Bool) (m : ℕ) (e : ℤ) (z : Float) → HasValue z s (1 * 2 ^ 1 * (m * up e)) (1 * down e) → Scaled 1 (fin s m e) z
+of-value s m e nan v = v
+of-value s m e (inf t) v = v
+of-value s m e (fin t n d) v = (v .0, turn (n * up d) (down e) (m * up e) (down d) (v .1))
+  where
+    turn : (x c a d : ℕ) → x * (1 * c) ≡ 1 * 2 ^ 1 * a * d → x * c ≡ a * 2 ^ 1 * d
+    turn x c a d h = ap (λ (z : ℕ). x * z) (sym (one-mul c)) ∙ h ∙ ap (λ (z : ℕ). z * d) (mul-comm 2 a)
+
+pub twice : (a : Float) → T (fits binary64 a) → finite (mul binary64 (twoTo 1) a) ≡ true → Scaled 1 a (mul binary64 (twoTo 1) a)
+unfolding mul
+twice nan h f = never (sym f)
+twice (inf s) h f = never (sym f)
+twice (fin s m e) h f = go (ltb (m * 2 ^ suc j) (2 ^ 2098)) refl
+  where
+    p : Parts m e
+    p = parts s m e h
+
+    j : ℕ
+    j = p .shift
+
+    N : ℕ
+    N = 1 * 2 ^ 1 * (m * up e)
+
+    D : ℕ
+    D = 1 * down e
+
+    D-pos : 0 < D
+    D-pos = mul-pos (pow-pos 0) (down-pos e)
+
+    units : (a l q d : ℕ) → a * l ≡ q * d → 1 * 2 ^ 1 * a * l ≡ q * 2 * (1 * d)
+    units a l q d h = mul-assoc 2 a l ∙ ap (λ (x : ℕ). 2 * x) h ∙ sym (mul-assoc 2 q d) ∙ ap (λ (x : ℕ). x * d) (mul-comm 2 q) ∙ ap (λ (x : ℕ). q * 2 * x) (sym (one-mul d))
+
+    exact : N * 2 ^ 1074 ≡ m * 2 ^ suc j * D
+    exact = units (m * up e) (2 ^ 1074) (m * 2 ^ j) (down e) (p .exact) ∙ ap (λ (x : ℕ). x * D) (mul-assoc m (2 ^ j) 2 ∙ ap (λ (x : ℕ). m * x) (sym (pow-suc 2 j)))
+
+    go : (b : Bool) → ltb (m * 2 ^ suc j) (2 ^ 2098) ≡ b → Scaled 1 (fin s m e) (round binary64 (unlike false s) N D)
+    go true l =
+        of-value s m e (round binary64 (unlike false s) N D)
+        (subst (λ (t : Bool). HasValue (round binary64 (unlike false s) N D) t N D) (two-of s)
+        (round-exact binary64 (unlike false s) N D m (suc j) D-pos (p .few) (ltb-true (m * 2 ^ suc j) (2 ^ 2098) l) exact))
+    go false l =
+        let large : 2 ^ 1024 * 2 ^ 1074 ≤ m * 2 ^ suc j = ltb-false (m * 2 ^ suc j) (2 ^ 2098) l in
+        let over : 2 ^ 1024 * D ≤ N * 1 = le-of-mul-le-mul-right (cleared (2 ^ 1024) (2 ^ 1074) (m * 2 ^ suc j) D N large exact) (pow-pos 1074) in
+        let infinite : round binary64 false (2 ^ 1024) 1 ≡ inf false = unfold round in refl in
+        absurd (beyond (round binary64 false N D) (sym (round-size N D (unlike false s) .lost) ∙ f)
+        (subst (λ (z : Float). T (le z (round binary64 false N D))) infinite (round-mono binary64 (2 ^ 1024) 1 N D (pow-pos 0) D-pos over)))
+      where
+        cleared : (h l q d n : ℕ) → h * l ≤ q → n * l ≡ q * d → h * d * l ≤ n * 1 * l
+        cleared h l q d n g e = le-trans (le-of-eq (mul-right-comm h d l)) (le-trans (mul-le-mul-right d g) (le-of-eq (sym e ∙ ap (λ (x : ℕ). x * l) (sym (mul-one n)))))
+
+-- ---- the law on f64s
+
+fits-bits : (r x : Float) (bs : List Bool) → T (fits binary64 r) → T (fits binary64 (overBits (λ r. r) r x bs))
+unfolding overBits
+fits-bits r x [] h = h
+fits-bits r x (true ∷ bs) h = fits-bits (mul binary64 r x) (mul binary64 x x) bs (mul-fits binary64 r x)
+fits-bits r x (false ∷ bs) h = fits-bits r (mul binary64 x x) bs h
