@@ -11,14 +11,10 @@ use lib.Ieee.Bits.{toBits-lt}
 use Rattle.common.specs.Outcome.{finite}
 use Rattle.common.proofs.Laws.{never}
 use Rattle.power_laws.specs.Laws.{signBit, SignBitOnly}
+use Rattle.power_laws.proofs.Again.{other-sign}
 
 lower : (t : ℕ) → top binary64 + t < 2 * top binary64 → t < 2 ^ 63
 lower t h = omega arith
-
-size-fits : (s : Bool) (m : ℕ) (e : ℤ) → T (fits binary64 (fin s m e)) → T (fits binary64 (fin true m e))
-unfolding fits
-size-fits s zero e h = h
-size-fits s (suc m) e h = h
 
 pub sign-bit-only : (x : Float) → finite x ≡ true → T (fits binary64 x) → SignBitOnly x (neg x)
 unfolding toBits neg
@@ -31,7 +27,7 @@ sign-bit-only (fin s m e) f h =
     record {
       sign = s;
       rest = t;
-      small = lower t (rw (sym (add-assoc (top binary64) (k * hid binary64) (n / 2 ^ k))) (toBits-lt binary64 (fin true m e) (size-fits s m e h)));
+      small = lower t (rw (sym (add-assoc (top binary64) (k * hid binary64) (n / 2 ^ k))) (toBits-lt binary64 (fin true m e) (other-sign s true m e h)));
       before = by s (k * hid binary64) (n / 2 ^ k);
       after = by (not s) (k * hid binary64) (n / 2 ^ k);
     }

@@ -1,5 +1,4 @@
--- The doubling law on f64s: twice a number is exact where it is finite, and a power times 2^n is one f64. In order: a number of the format rounded again,
--- 2^k times a number, twice a number, the law. Assumes nothing.
+-- The doubling law on f64s: twice a number is exact where it is finite, and a power times 2^n is one f64. In order: 2^k times a number, twice a number, the law. Assumes nothing.
 use mathlib.Core.Path.{_≡_, refl, sym, ap, _∙_, subst}
 use mathlib.Core.Bool.{Bool, true, false, not, _&&_}
 use mathlib.Core.List.{List, [], _∷_}
@@ -20,69 +19,9 @@ use Rattle.common.proofs.Laws.{never}
 use Rattle.sizes.proofs.Band.{round-size}
 use Rattle.rules.specs.Power.{one, bits, powerRule}
 use Rattle.rules.specs.RawPower.{times, overBits}
-use Rattle.rules.proofs.Rounds.{rescale}
-use Rattle.rules.proofs.Fields as fields
 use Rattle.power_laws.specs.Laws.{Scaled, twoTo, inRange, products}
+use Rattle.power_laws.proofs.Again.{Parts, parts, again}
 use Rattle.power_laws.proofs.Doubling.{Doubled, doubling}
-
--- ---- a number of the format, in units of 2^-1074: m * 2^j
-
-record Parts (m : ℕ) (e : ℤ) : Type 0 where
-  shift : ℕ
-  exact : m * up e * 2 ^ 1074 ≡ m * 2 ^ shift * down e
-  few : m < 2 ^ 53
-  under : m * 2 ^ shift < 2 ^ 2098
-
-pow-le : (a l : ℕ) → 2 ^ a ≤ 2 ^ l → a ≤ l
-pow-le a l h = less (λ (g : l < a). not-le-of-lt (pow-lt g) h)
-  where
-    less : (l < a → ⊥) → a ≤ l
-    less f = omega (arith, f)
-
-shifted : (l : ℕ) (e : ℤ) → down e ≤ 2 ^ l → (j : ℕ) × (up e * 2 ^ l ≡ 2 ^ j * down e)
-shifted l (pos k) h = (k + l, sym (pow-add 2 k l) ∙ sym (mul-one (2 ^ (k + l))))
-shifted l (negsuc k) h =
-    let s : suc k ≤ l = pow-le (suc k) l h in
-    let e : l - suc k + suc k ≡ l = omega arith in
-    (l - suc k, one-mul (2 ^ l) ∙ sym (sym (pow-add 2 (l - suc k) (suc k)) ∙ ap (λ (x : ℕ). 2 ^ x) e))
-
-below : (a d l h q : ℕ) → 0 < d → 0 < l → a * l ≡ q * d → a < h * d → q < h * l
-below a d l h q p r e g =
-    lt-of-not-le (λ (z : h * l ≤ q).
-    not-le-of-lt (mul-lt-mul-of-pos-right g r)
-    (le-trans (le-of-eq (mul-right-comm h d l)) (le-trans (mul-le-mul-right d z) (le-of-eq (sym e)))))
-
-parts : (s : Bool) (m : ℕ) (e : ℤ) → T (fits binary64 (fin s m e)) → Parts m e
-unfolding fits
-parts s zero e h = record { shift = 0; exact = none (up e) (2 ^ 1074) (down e); few = pow-pos 53; under = pow-pos 2098 }
-  where
-    none : (u l d : ℕ) → 0 * u * l ≡ 0 * d
-    none u l d = ap (λ (x : ℕ). x * l) (zero-mul u) ∙ zero-mul l ∙ sym (zero-mul d)
-parts s (suc m) e h =
-    let o = eqb (suc m % 2) 1 in
-    let a = ltb (suc m) (2 ^ 53) in
-    let b = leb (down e) (2 ^ 1074) in
-    let c = ltb (suc m * up e) (2 ^ 1024 * down e) in
-    let top = ltb→lt (suc m * up e) (2 ^ 1024 * down e) (and-r (o && a && b) c h) in
-    let fine = leb→le (down e) (2 ^ 1074) (and-r (o && a) b (and-l (o && a && b) c h)) in
-    let z = shifted 1074 e fine in
-    let equal : suc m * up e * 2 ^ 1074 ≡ suc m * 2 ^ (z .0) * down e = mul-assoc (suc m) (up e) (2 ^ 1074) ∙ ap (λ (x : ℕ). suc m * x) (z .1) ∙ sym (mul-assoc (suc m) (2 ^ (z .0)) (down e)) in
-    record {
-      shift = z .0;
-      exact = equal;
-      few = ltb→lt (suc m) (2 ^ 53) (and-r o a (and-l (o && a) b (and-l (o && a && b) c h)));
-      under = below (suc m * up e) (down e) (2 ^ 1074) (2 ^ 1024) (suc m * 2 ^ (z .0)) (down-pos e) (pow-pos 1074) equal top;
-    }
-
--- rounded again, it is itself
-again : (s : Bool) (m : ℕ) (e : ℤ) → T (fits binary64 (fin s m e)) → round binary64 s (m * up e) (down e) ≡ fin s m e
-again s m e h =
-    let p = parts s m e h in
-    let q = m * 2 ^ (p .shift) in
-    let v = round-exact binary64 s (m * up e) (down e) m (p .shift) (down-pos e) (p .few) (p .under) (p .exact) in
-    fields.same (round binary64 s (m * up e) (down e)) (fin s m e) s q (round-fits binary64 s (m * up e) (down e)) h
-    (rescale (round binary64 s (m * up e) (down e)) s (m * up e) (down e) q (2 ^ 1074) (down-pos e) (sym (p .exact)) v)
-    (refl, p .exact)
 
 -- ---- 2^k times a number
 

@@ -1,6 +1,7 @@
 pub mod Signs
-pub mod Inverses
+pub mod Again
 pub mod Bits
+pub mod Inverses
 pub mod Scales
 pub mod Doubling
 pub mod Doubles

@@ -21,8 +21,9 @@ use Rattle.common.proofs.Sums.{T-true}
 use Rattle.sizes.specs.Lost.{subnormal}
 use Rattle.sizes.proofs.Band.{round-size}
 use Rattle.sizes.proofs.Looks.{least, from-least}
+use Rattle.rules.proofs.Rounds.{round-neg}
 use Rattle.power_laws.specs.Laws.{Scaled, inRange}
-use Rattle.power_laws.proofs.Signs.{round-turned, subnormal-turned}
+use Rattle.power_laws.proofs.Signs.{subnormal-turned}
 
 pub left : (p q : Bool) → (p && q) ≡ true → p ≡ true
 left true q h = refl
@@ -133,7 +134,7 @@ positive-normal N D P h =
     (T-true (le (least false) (round binary64 false N D)) (subst (λ (z : Float). T (le z (round binary64 false N D))) smallest above))
 
 rounded-normal : (s : Bool) (N D : ℕ) → 0 < D → D ≤ N * 2 ^ 1022 → subnormal (round binary64 s N D) ≡ false
-rounded-normal true N D P h = ap subnormal (round-turned binary64 false N D) ∙ subnormal-turned (round binary64 false N D) ∙ positive-normal N D P h
+rounded-normal true N D P h = ap subnormal (sym (round-neg binary64 false N D)) ∙ subnormal-turned (round binary64 false N D) ∙ positive-normal N D P h
 rounded-normal false N D P h = positive-normal N D P h
 
 pub range-finite : (r x : Float) → inRange r x ≡ true → finite (mul binary64 r x) ≡ true

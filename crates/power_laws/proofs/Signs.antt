@@ -1,44 +1,22 @@
 -- The sign law: a base with its sign turned has the same power where n is even, and the power with its sign turned where n is odd; both are refused alike.
 -- In order: one rounded operation, one look, the bits of |n|, the sign of n, and the law. Assumes nothing.
 use mathlib.Core.Path.{_≡_, refl, sym, ap, _∙_}
-use mathlib.Core.Bool.{Bool, true, false, not, _&&_, Bool·beq, cond}
+use mathlib.Core.Bool.{Bool, true, false, not, _&&_, cond}
 use mathlib.Core.List.{List, [], _∷_}
-use Prim.Native.Nat.{ℕ, zero, suc, _+_, _-_, _*_, _/_, _%_, _^_, _<_, compare}
+use Prim.Native.Nat.{ℕ, zero, suc, _*_, _/_, _^_, _<_}
 use native.Mathlib.Omega.{arith}
-use lib.Dec.{eqb, leb, ltb}
+use lib.Dec.{eqb, leb}
 use lib.IntN.{ℤ, pos, negsuc, natAbs}
-use lib.Ieee.{Float, nan, inf, fin, Format, binary64, prec, emax, low, up, down, size, nearest, units, round, neg, mul, div, unlike}
-use lib.Ieee as ieee
+use lib.Ieee.{Float, nan, inf, fin, binary64, up, down, size, round, neg, mul, div, unlike}
 use lib.Ieee.Digits.{size-lt}
-use borrow.Author.Tests.{ne-eqb}
 use Rattle.common.specs.Outcome.{Outcome, value, refused, finite, check, then}
 use Rattle.common.specs.Formula.{minusOf}
 use Rattle.sizes.specs.Lost.{subnormal, isZero}
 use Rattle.rules.specs.Power.{one, odd, lowest, bits, checkPower, byBits, bySign, powerRule}
+use Rattle.rules.proofs.Rounds.{round-neg}
 use Rattle.power_laws.specs.Laws.{turned}
 
 -- ---- one rounded operation
-
-odd-turned : (d q k l : ℕ) (s : Bool) → ieee.odd d (not s) q k l ≡ neg (ieee.odd d s q k l)
-unfolding ieee.odd neg
-odd-turned d zero k l s = refl
-odd-turned d (suc q) k l s = refl
-
-units-turned : (f : Format) (s : Bool) (q k : ℕ) → units f (not s) q k ≡ neg (units f s q k)
-unfolding units
-units-turned f s q k = go (ltb (q * 2 ^ k) (2 ^ (low f + suc (emax f))))
-  where
-    go : (b : Bool) → cond b (ieee.odd (suc (prec f)) (not s) q k (low f)) (inf (not s)) ≡ neg (cond b (ieee.odd (suc (prec f)) s q k (low f)) (inf s))
-    go true = odd-turned (suc (prec f)) q k (low f) s
-    go false = unfold neg in refl
-
-pub round-turned : (f : Format) (s : Bool) (a c : ℕ) → round f (not s) a c ≡ neg (round f s a c)
-unfolding round
-round-turned f s a c =
-    let n = a * 2 ^ low f in
-    let k = size (n / c) - prec f in
-    let u = c * 2 ^ k in
-    units-turned f s (nearest (n / u) (compare (n % u * 2) u)) k
 
 unlike-left : (s t : Bool) → unlike (not s) t ≡ not (unlike s t)
 unlike-left true true = refl
@@ -69,7 +47,7 @@ mul-turned (inf s) (inf t) = ap inf (unlike-left s t)
 mul-turned (inf s) (fin t n d) = rw (unlike-left s t) (inf-turned (eqb n 0) (unlike s t))
 mul-turned (fin s m e) nan = refl
 mul-turned (fin s m e) (inf t) = rw (unlike-left s t) (inf-turned (eqb m 0) (unlike s t))
-mul-turned (fin s m e) (fin t n d) = rw (unlike-left s t) (round-turned binary64 (unlike s t) (m * up e * (n * up d)) (down e * down d))
+mul-turned (fin s m e) (fin t n d) = rw (unlike-left s t) (sym (round-neg binary64 (unlike s t) (m * up e * (n * up d)) (down e * down d)))
 
 pub mul-turned-right : (x y : Float) → mul binary64 x (neg y) ≡ neg (mul binary64 x y)
 unfolding mul neg
@@ -79,7 +57,7 @@ mul-turned-right (inf s) (inf t) = ap inf (unlike-right s t)
 mul-turned-right (inf s) (fin t n d) = rw (unlike-right s t) (inf-turned (eqb n 0) (unlike s t))
 mul-turned-right (fin s m e) nan = refl
 mul-turned-right (fin s m e) (inf t) = rw (unlike-right s t) (inf-turned (eqb m 0) (unlike s t))
-mul-turned-right (fin s m e) (fin t n d) = rw (unlike-right s t) (round-turned binary64 (unlike s t) (m * up e * (n * up d)) (down e * down d))
+mul-turned-right (fin s m e) (fin t n d) = rw (unlike-right s t) (sym (round-neg binary64 (unlike s t) (m * up e * (n * up d)) (down e * down d)))
 
 pub square-turned : (x : Float) → mul binary64 (neg x) (neg x) ≡ mul binary64 x x
 unfolding mul neg
@@ -97,7 +75,7 @@ inverse-turned (fin s m e) = rw (unlike-right false s) (go (eqb m 0))
         → cond b (inf (not (unlike false s))) (round binary64 (not (unlike false s)) (1 * 1 * down e) (m * up e * 1))
         ≡ neg (cond b (inf (unlike false s)) (round binary64 (unlike false s) (1 * 1 * down e) (m * up e * 1)))
     go true = refl
-    go false = round-turned binary64 (unlike false s) (1 * 1 * down e) (m * up e * 1)
+    go false = sym (round-neg binary64 (unlike false s) (1 * 1 * down e) (m * up e * 1))
 
 -- ---- one look
 
