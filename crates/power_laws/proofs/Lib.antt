@@ -5,3 +5,4 @@ pub mod Inverses
 pub mod Scales
 pub mod Doubling
 pub mod Doubles
+pub mod Products
