@@ -19,9 +19,9 @@ use Rattle.common.proofs.Laws.{never}
 use Rattle.sizes.proofs.Band.{round-size}
 use Rattle.rules.specs.Power.{one, bits, powerRule}
 use Rattle.rules.specs.RawPower.{times, overBits}
-use Rattle.power_laws.specs.Laws.{Scaled, twoTo, inRange, products}
+use Rattle.power_laws.specs.Laws.{Scaled, twoTo, inRange, normal, products, Doubled}
 use Rattle.power_laws.proofs.Again.{Parts, parts, again}
-use Rattle.power_laws.proofs.Doubling.{Doubled, doubling}
+use Rattle.power_laws.proofs.Doubling.{weaker, kept, range-is-normal, normal-is-kept, accepted, ends, scaled-raw}
 
 -- ---- 2^k times a number
 
@@ -110,3 +110,28 @@ unfolding overBits
 fits-bits r x [] h = h
 fits-bits r x (true ∷ bs) h = fits-bits (mul binary64 r x) (mul binary64 x x) bs (mul-fits binary64 r x)
 fits-bits r x (false ∷ bs) h = fits-bits r (mul binary64 x x) bs h
+
+one-fits : T (fits binary64 one)
+one-fits = unfold fits in tt
+
+-- for an n from 0 to 64 and a b that is exactly twice a; of the second computation it is enough that its products are normal once they are rounded
+pub doubled : (a b : Float) (n : ℕ) → n ≤ 64 → Scaled 1 a b → products inRange a n ≡ true → products normal b n ≡ true → Doubled a b n
+doubled a b n l u p q =
+    let x = overBits (λ r. r) one a (bits n) in
+    let y = overBits (λ r. r) one b (bits n) in
+    let e = scaled-raw a b n u p (weaker normal kept normal-is-kept one b (bits n) q) in
+    record {
+      of-base = x;
+      of-double = y;
+      base-accepted = accepted a n (ends 1 a b u .0) l (weaker inRange normal range-is-normal one a (bits n) p);
+      double-accepted = accepted b n (ends 1 a b u .1) l q;
+      exactly = e;
+      as-f64 = as-product n x y (fits-bits one b (bits n) one-fits) e;
+    }
+
+-- the law: an f64 a whose double is finite, and no product of either computation outside the normal range
+pub doubling : (a : Float) (n : ℕ) → T (fits binary64 a) → n ≤ 64 → finite (mul binary64 (twoTo 1) a) ≡ true
+    → products inRange a n ≡ true → products inRange (mul binary64 (twoTo 1) a) n ≡ true → Doubled a (mul binary64 (twoTo 1) a) n
+doubling a n h l f p q =
+    let b = mul binary64 (twoTo 1) a in
+    doubled a b n l (twice a h f) p (weaker inRange normal range-is-normal one b (bits n) q)

@@ -1,5 +1,5 @@
--- The doubling law: where no product of either computation leaves the normal range, the power at n of twice a base is exactly 2^n times the power of the
--- base. In order: a power with no product lost is accepted, the bits of n, the law. Assumes nothing.
+-- The bits of n, taken at a base and at twice the base: where no product leaves the normal range the result is exactly 2^n times as much. In order: tests of
+-- products, the bits, that a power whose products are all normal is accepted, and the numbers of both powers. Assumes nothing.
 use mathlib.Core.Path.{_≡_, refl, sym, ap, _∙_, subst}
 use mathlib.Core.Bool.{Bool, true, false, not, _&&_, cond}
 use mathlib.Core.List.{List, [], _∷_}
@@ -18,6 +18,33 @@ use Rattle.rules.specs.Power.{one, odd, lowest, bits, checkPower, byBits, bySig
 use Rattle.rules.specs.RawPower.{times, overBits}
 use Rattle.power_laws.specs.Laws.{Scaled, inRange, normal, ofBit, everyProduct, products}
 use Rattle.power_laws.proofs.Scales.{left, right, mul-scaled, range-finite, range-normal}
+
+-- ---- tests of products
+
+-- a weaker test passes too
+pub weaker : (p q : Float → Float → Bool) → ((r x : Float) → p r x ≡ true → q r x ≡ true) → (r x : Float) (bs : List Bool)
+    → everyProduct p r x bs ≡ true → everyProduct q r x bs ≡ true
+unfolding everyProduct
+weaker p q f r x [] h = refl
+weaker p q f r x (true ∷ []) h = f r x h
+weaker p q f r x (false ∷ []) h = refl
+weaker p q f r x (true ∷ c ∷ cs) h =
+    let rest = everyProduct p (mul binary64 r x) (mul binary64 x x) (c ∷ cs) in
+    let g = right (p r x) (p x x && rest) h in
+    rw (f r x (left (p r x) (p x x && rest) h), f x x (left (p x x) rest g)) (weaker p q f (mul binary64 r x) (mul binary64 x x) (c ∷ cs) (right (p x x) rest g))
+weaker p q f r x (false ∷ c ∷ cs) h =
+    let rest = everyProduct p r (mul binary64 x x) (c ∷ cs) in
+    rw (f x x (left (p x x) rest h)) (weaker p q f r (mul binary64 x x) (c ∷ cs) (right (p x x) rest h))
+
+-- the product is finite
+abbrev pub kept : Float → Float → Bool
+kept r x = finite (mul binary64 r x)
+
+pub range-is-normal : (r x : Float) → inRange r x ≡ true → normal r x ≡ true
+range-is-normal r x h = rw (range-finite r x h, range-normal r x h) refl
+
+pub normal-is-kept : (r x : Float) → normal r x ≡ true → kept r x ≡ true
+normal-is-kept r x h = left (kept r x) (not (subnormal (mul binary64 r x))) h
 
 -- ---- the bits of n, taken from r and x on and from 2^i times r and 2^j times x on
 
@@ -53,13 +80,13 @@ last-count b n i j h l =
     none : (a b : ℕ) → a ≡ a + b * 0
     none a b = omega arith
 
-bit-scaled : (b : Bool) (i j : ℕ) (r x r' x' : Float) → Scaled i r r' → Scaled j x x' → ofBit inRange b r x ≡ true → ofBit inRange b r' x' ≡ true
+bit-scaled : (b : Bool) (i j : ℕ) (r x r' x' : Float) → Scaled i r r' → Scaled j x x' → ofBit inRange b r x ≡ true → ofBit kept b r' x' ≡ true
     → Scaled (plus b i j) (times b r x) (times b r' x')
-bit-scaled true i j r x r' x' u v p q = mul-scaled i j r x r' x' u v p (range-finite r' x' q)
+bit-scaled true i j r x r' x' u v p q = mul-scaled i j r x r' x' u v p q
 bit-scaled false i j r x r' x' u v p q = u
 
 scaled-bits : (k n i j : ℕ) (r x r' x' : Float) → n < 2 ^ k → Scaled i r r' → Scaled j x x'
-    → everyProduct inRange r x (lowest k n) ≡ true → everyProduct inRange r' x' (lowest k n) ≡ true
+    → everyProduct inRange r x (lowest k n) ≡ true → everyProduct kept r' x' (lowest k n) ≡ true
     → Scaled (i + j * n) (overBits (λ r. r) r x (lowest k n)) (overBits (λ r. r) r' x' (lowest k n))
 unfolding everyProduct overBits lowest
 scaled-bits zero n i j r x r' x' l u v p q =
@@ -73,69 +100,60 @@ scaled-bits (suc zero) n i j r x r' x' l u v p q =
 scaled-bits (suc (suc k)) n i j r x r' x' l u v p q =
     let half : n / 2 < 2 ^ suc k = let z : 2 ^ suc (suc k) ≡ 2 ^ suc k * 2 = pow-suc 2 (suc k) in omega arith in
     let rest = everyProduct inRange (times (odd n) r x) (mul binary64 x x) (lowest (suc k) (n / 2)) in
-    let rest' = everyProduct inRange (times (odd n) r' x') (mul binary64 x' x') (lowest (suc k) (n / 2)) in
+    let rest' = everyProduct kept (times (odd n) r' x') (mul binary64 x' x') (lowest (suc k) (n / 2)) in
     let above = right (ofBit inRange (odd n) r x) (inRange x x && rest) p in
-    let above' = right (ofBit inRange (odd n) r' x') (inRange x' x' && rest') q in
+    let above' = right (ofBit kept (odd n) r' x') (kept x' x' && rest') q in
     subst (λ (k' : ℕ). Scaled k' (overBits (λ r. r) (times (odd n) r x) (mul binary64 x x) (lowest (suc k) (n / 2))) (overBits (λ r. r) (times (odd n) r' x') (mul binary64 x' x') (lowest (suc k) (n / 2))))
     (count (odd n) n i j refl)
     (scaled-bits (suc k) (n / 2) (plus (odd n) i j) (j + j) (times (odd n) r x) (mul binary64 x x) (times (odd n) r' x') (mul binary64 x' x') half
-    (bit-scaled (odd n) i j r x r' x' u v (left (ofBit inRange (odd n) r x) (inRange x x && rest) p) (left (ofBit inRange (odd n) r' x') (inRange x' x' && rest') q))
-    (mul-scaled j j x x x' x' v v (left (inRange x x) rest above) (range-finite x' x' (left (inRange x' x') rest' above')))
-    (right (inRange x x) rest above) (right (inRange x' x') rest' above'))
+    (bit-scaled (odd n) i j r x r' x' u v (left (ofBit inRange (odd n) r x) (inRange x x && rest) p) (left (ofBit kept (odd n) r' x') (kept x' x' && rest') q))
+    (mul-scaled j j x x x' x' v v (left (inRange x x) rest above) (left (kept x' x') rest' above'))
+    (right (inRange x x) rest above) (right (kept x' x') rest' above'))
 
--- ---- a power is accepted where each of its products is in the range
+-- ---- a power whose products are all normal is accepted
 
 looked-at : (a z : Float) → finite z ≡ true → subnormal z ≡ false → checkPower a z ≡ value z
 looked-at a z f n = rw n (check-kept z f)
 
-accepted-bits : (a r x : Float) (bs : List Bool) → everyProduct inRange r x bs ≡ true → byBits a r x bs ≡ value (overBits (λ r. r) r x bs)
+pub taken : (a r x : Float) → normal r x ≡ true → checkPower a (mul binary64 r x) ≡ value (mul binary64 r x)
+taken a r x h =
+    let z = mul binary64 r x in
+    looked-at a z (left (finite z) (not (subnormal z)) h) (turned (subnormal z) (right (finite z) (not (subnormal z)) h))
+  where
+    turned : (b : Bool) → not b ≡ true → b ≡ false
+    turned true h = never (sym h)
+    turned false h = refl
+
+pub accepted-bits : (a r x : Float) (bs : List Bool) → everyProduct normal r x bs ≡ true → byBits a r x bs ≡ value (overBits (λ r. r) r x bs)
 unfolding everyProduct byBits overBits
 accepted-bits a r x [] h = refl
-accepted-bits a r x (true ∷ []) h = rw (looked-at a (mul binary64 r x) (range-finite r x h) (range-normal r x h)) refl
+accepted-bits a r x (true ∷ []) h = rw (taken a r x h) refl
 accepted-bits a r x (false ∷ []) h = refl
 accepted-bits a r x (true ∷ c ∷ cs) h =
-    let rest = everyProduct inRange (mul binary64 r x) (mul binary64 x x) (c ∷ cs) in
-    let g = left (inRange r x) (inRange x x && rest) h in
-    rw (looked-at a (mul binary64 r x) (range-finite r x g) (range-normal r x g))
-    (accepted-bits a (mul binary64 r x) (mul binary64 x x) (c ∷ cs) (right (inRange x x) rest (right (inRange r x) (inRange x x && rest) h)))
-accepted-bits a r x (false ∷ c ∷ cs) h =
-    let rest = everyProduct inRange r (mul binary64 x x) (c ∷ cs) in
-    accepted-bits a r (mul binary64 x x) (c ∷ cs) (right (inRange x x) rest h)
+    let rest = everyProduct normal (mul binary64 r x) (mul binary64 x x) (c ∷ cs) in
+    rw (taken a r x (left (normal r x) (normal x x && rest) h))
+    (accepted-bits a (mul binary64 r x) (mul binary64 x x) (c ∷ cs) (right (normal x x) rest (right (normal r x) (normal x x && rest) h)))
+accepted-bits a r x (false ∷ c ∷ cs) h = accepted-bits a r (mul binary64 x x) (c ∷ cs) (right (normal x x) (everyProduct normal r (mul binary64 x x) (c ∷ cs)) h)
 
-accepted : (a : Float) (n : ℕ) → finite a ≡ true → n ≤ 64 → products inRange a n ≡ true → powerRule a (pos n) ≡ value (overBits (λ r. r) one a (bits n))
+pub accepted : (a : Float) (n : ℕ) → finite a ≡ true → n ≤ 64 → products normal a n ≡ true → powerRule a (pos n) ≡ value (overBits (λ r. r) one a (bits n))
 unfolding powerRule
 accepted a n f l h = rw (f, le-leb n 64 l, accepted-bits a one a (bits n) h) refl
 
--- ---- the law
+-- ---- both powers
 
-ends : (k : ℕ) (x y : Float) → Scaled k x y → (finite x ≡ true) × (finite y ≡ true)
+pub ends : (k : ℕ) (x y : Float) → Scaled k x y → (finite x ≡ true) × (finite y ≡ true)
 ends k nan y u = absurd u
 ends k (inf s) y u = absurd u
 ends k (fin s m e) nan u = absurd u
 ends k (fin s m e) (inf t) u = absurd u
 ends k (fin s m e) (fin t n d) u = (refl, refl)
 
-one-scaled : Scaled 0 one one
-one-scaled = (refl, refl)
-
--- both powers are numbers, and the one is exactly 2^n times the other
-pub record Doubled (a b : Float) (n : ℕ) : Type 0 where
-  pub of-base : Float
-  pub of-double : Float
-  pub base-accepted : powerRule a (pos n) ≡ value of-base
-  pub double-accepted : powerRule b (pos n) ≡ value of-double
-  pub exactly : Scaled n of-base of-double
-
--- for an n from 0 to 64 and a b that is exactly twice a
-pub doubling : (a b : Float) (n : ℕ) → n ≤ 64 → Scaled 1 a b → products inRange a n ≡ true → products inRange b n ≡ true → Doubled a b n
-doubling a b n l u p q =
-    record {
-      of-base = overBits (λ r. r) one a (bits n);
-      of-double = overBits (λ r. r) one b (bits n);
-      base-accepted = accepted a n (ends 1 a b u .0) l p;
-      double-accepted = accepted b n (ends 1 a b u .1) l q;
-      exactly = subst (λ (k : ℕ). Scaled k (overBits (λ r. r) one a (bits n)) (overBits (λ r. r) one b (bits n))) (count-all n) (scaled-bits (size n) n 0 1 one a one b (size-lt n) one-scaled u p q);
-    }
+-- of the numbers themselves, with no look at any
+pub scaled-raw : (a b : Float) (n : ℕ) → Scaled 1 a b → products inRange a n ≡ true → products kept b n ≡ true
+    → Scaled n (overBits (λ r. r) one a (bits n)) (overBits (λ r. r) one b (bits n))
+scaled-raw a b n u p q =
+    subst (λ (k : ℕ). Scaled k (overBits (λ r. r) one a (bits n)) (overBits (λ r. r) one b (bits n))) (all n)
+    (scaled-bits (size n) n 0 1 one a one b (size-lt n) (refl, refl) u p q)
   where
-    count-all : (n : ℕ) → 0 + 1 * n ≡ n
-    count-all n = omega arith
+    all : (n : ℕ) → 0 + 1 * n ≡ n
+    all n = omega arith

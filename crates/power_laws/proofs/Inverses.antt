@@ -19,10 +19,10 @@ by-parts a k true false o = refl
 by-parts a k false q o = refl
 
 -- what a value is not, and is
-other : (k : ℕ) (x : Float) → _≡_ {A = Outcome Float} (refused k) (value x) → ⊥
+pub other : (k : ℕ) (x : Float) → _≡_ {A = Outcome Float} (refused k) (value x) → ⊥
 other k x e = let z : _≡_ {A = ℕ} 0 1 = cc in omega arith
 
-value-of : (x y : Float) → _≡_ {A = Outcome Float} (value x) (value y) → x ≡ y
+pub value-of : (x y : Float) → _≡_ {A = Outcome Float} (value x) (value y) → x ≡ y
 value-of x y e = cc
 
 -- the power at -(k + 1), of any base, accepted or not

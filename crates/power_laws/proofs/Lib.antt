@@ -6,3 +6,4 @@ pub mod Scales
 pub mod Doubling
 pub mod Doubles
 pub mod Products
+pub mod Accepted

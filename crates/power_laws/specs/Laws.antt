@@ -1,4 +1,4 @@
--- To believe: what the laws of powers say. In order: the sign law, the inverse law, the doubling law. Assumes nothing: these are definitions.
+-- To believe: what the laws of powers say. In order: the sign law, the inverse law, the doubling law, a rule that looks at squares. Assumes nothing: these are definitions.
 use mathlib.Core.Path.{_≡_}
 use mathlib.Core.Bool.{Bool, true, false, not, _&&_}
 use mathlib.Core.List.{List, [], _∷_}
@@ -6,10 +6,10 @@ use Prim.Native.Nat.{ℕ, _+_, _*_, _^_, _<_}
 use lib.Dec.{leb}
 use lib.IntN.{pos}
 use lib.Ieee.{Float, nan, inf, fin, binary64, up, down, mul, div, toBits}
-use Rattle.common.specs.Outcome.{Outcome, finite, then}
+use Rattle.common.specs.Outcome.{Outcome, value, finite, then}
 use Rattle.common.specs.Formula.{minusOf}
 use Rattle.sizes.specs.Lost.{subnormal}
-use Rattle.rules.specs.Power.{one, bits, checkPower}
+use Rattle.rules.specs.Power.{one, bits, checkPower, byBits, powerRule}
 use Rattle.rules.specs.RawPower.{times}
 
 -- ---- the sign law
@@ -78,3 +78,23 @@ everyProduct p r x (bit ∷ next ∷ higher) = ofBit p bit r x && (p x x && ever
 -- of the power at n
 abbrev pub products : (Float → Float → Bool) → Float → ℕ → Bool
 products p a n = everyProduct p one a (bits n)
+
+-- the powers at n of a and of b are numbers, and the one of b is exactly 2^n times the one of a: as numbers, and so as the rounded product
+pub record Doubled (a b : Float) (n : ℕ) : Type 0 where
+  pub of-base : Float
+  pub of-double : Float
+  pub base-accepted : powerRule a (pos n) ≡ value of-base
+  pub double-accepted : powerRule b (pos n) ≡ value of-double
+  pub exactly : Scaled n of-base of-double
+  pub as-f64 : of-double ≡ mul binary64 of-base (twoTo n)
+
+-- ---- a look at each square
+
+-- as `byBits` of the rule, where each x*x is looked at too
+unfoldable pub byBitsAndSquares : Float → Float → Float → List Bool → Outcome Float
+unfolding byBits
+byBitsAndSquares a r x [] = value r
+byBitsAndSquares a r x (bit ∷ []) = byBits a r x (bit ∷ [])
+byBitsAndSquares a r x (true ∷ next ∷ higher) =
+    then (checkPower a (mul binary64 r x)) (λ r'. then (checkPower a (mul binary64 x x)) (λ x2. byBitsAndSquares a r' x2 (next ∷ higher)))
+byBitsAndSquares a r x (false ∷ next ∷ higher) = then (checkPower a (mul binary64 x x)) (λ x2. byBitsAndSquares a r x2 (next ∷ higher))
