@@ -7,3 +7,5 @@ pub mod Doubling
 pub mod Doubles
 pub mod Products
 pub mod Accepted
+pub mod Sums
+pub mod Contract
