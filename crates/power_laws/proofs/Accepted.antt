@@ -61,7 +61,7 @@ kept a r x y (false ∷ bs) h g e = let w = kept a r (mul binary64 x x) y bs h g
 -- ---- what is at most a subnormal number is subnormal, and nothing that is 1 at least is
 
 -- z at most x, and x at most t / u, or less
-under-at-most : (Z C A D t u : ℕ) → 0 < D → Z * D ≤ A * C → A * t ≤ D * u → Z * t ≤ C * u
+pub under-at-most : (Z C A D t u : ℕ) → 0 < D → Z * D ≤ A * C → A * t ≤ D * u → Z * t ≤ C * u
 under-at-most Z C A D t u p h l =
     le-of-mul-le-mul-right
     (le-trans (le-of-eq (mul-right-comm Z t D))
@@ -92,7 +92,7 @@ smaller z x u f h =
     ∙ lt-ltb (num z * 2 ^ 1022) (den z)
     (under-below (num z) (den z) (num x) (den x) (2 ^ 1022) (den-pos x) (den-pos z) (u .most) (ltb-true (num x * 2 ^ 1022) (den x) (sym (small-is x f) ∙ h)))
 
-grows : (A t : ℕ) → 0 < t → A ≤ A * t
+pub grows : (A t : ℕ) → 0 < t → A ≤ A * t
 grows A t p = le-trans (le-of-eq (sym (mul-one A))) (mul-le-mul-left A p)
 
 below-one : (x : Float) → finite x ≡ true → subnormal x ≡ true → num x ≤ 1 * den x
@@ -106,6 +106,8 @@ not-one x f h = small-is x f ∙ le-ltb (num x * 2 ^ 1022) (den x) (le-trans h (
 -- ---- the law
 
 pub record Accepted (a y : Float) (n : ℕ) : Type 0 where
+  pub finite-base : finite a ≡ true
+  pub finite-value : finite y ≡ true
   pub is : y ≡ overBits (λ r. r) one a (bits n)
   pub normal-products : products normal a n ≡ true
 
@@ -120,6 +122,8 @@ normal-bits : (a y : Float) (n : ℕ) → T (fits binary64 a) → finite a ≡ t
 normal-bits a y n f g h e =
     let k = kept a one a y (bits n) h refl e in
     record {
+      finite-base = g;
+      finite-value = left (finite y) (not (subnormal y)) (k .normal-last);
       is = k .is;
       normal-products = good-products subnormal smaller below-one not-one a n f g (sym (ap good (k .is)) ∙ k .normal-last);
     }

@@ -9,3 +9,4 @@ pub mod Products
 pub mod Accepted
 pub mod Sums
 pub mod Contract
+pub mod Short
