@@ -86,7 +86,7 @@ small-is nan f = never (sym f)
 small-is (inf s) f = never (sym f)
 small-is (fin s m e) f = refl
 
-smaller : (z x : Float) → Under z x → finite x ≡ true → subnormal x ≡ true → subnormal z ≡ true
+pub smaller : (z x : Float) → Under z x → finite x ≡ true → subnormal x ≡ true → subnormal z ≡ true
 smaller z x u f h =
     small-is z (u .kept)
     ∙ lt-ltb (num z * 2 ^ 1022) (den z)
@@ -108,6 +108,7 @@ not-one x f h = small-is x f ∙ le-ltb (num x * 2 ^ 1022) (den x) (le-trans h (
 pub record Accepted (a y : Float) (n : ℕ) : Type 0 where
   pub finite-base : finite a ≡ true
   pub finite-value : finite y ≡ true
+  pub normal-value : subnormal y ≡ false
   pub is : y ≡ overBits (λ r. r) one a (bits n)
   pub normal-products : products normal a n ≡ true
 
@@ -117,6 +118,10 @@ bits-of a y n true true (refused k) e = absurd (other k y e)
 bits-of a y n true false o e = absurd (other 3 y e)
 bits-of a y n false q o e = absurd (other 1 y e)
 
+is-false : (b : Bool) → not b ≡ true → b ≡ false
+is-false true h = never (sym h)
+is-false false h = refl
+
 -- the bits of any n, from 1 and the base on
 normal-bits : (a y : Float) (n : ℕ) → T (fits binary64 a) → finite a ≡ true → isZero a ≡ false → byBits a one a (bits n) ≡ value y → Accepted a y n
 normal-bits a y n f g h e =
@@ -124,6 +129,7 @@ normal-bits a y n f g h e =
     record {
       finite-base = g;
       finite-value = left (finite y) (not (subnormal y)) (k .normal-last);
+      normal-value = is-false (subnormal y) (right (finite y) (not (subnormal y)) (k .normal-last));
       is = k .is;
       normal-products = good-products subnormal smaller below-one not-one a n f g (sym (ap good (k .is)) ∙ k .normal-last);
     }
