@@ -12,3 +12,4 @@ pub mod Smallest
 pub mod Short
 pub mod Sums
 pub mod Contract
+pub mod Points
