@@ -114,12 +114,14 @@ zero-scaled (fin s m e) (fin t n d) u h = ne-eqb n 0 (λ k. none (up d) (down e)
         let z : A * 2 ^ 1 * D ≡ 0 = sym e ∙ ap (λ (x : ℕ). x * u * c) k ∙ zeroed u c in
         omega arith
 
-pub double-not-zero : (a : Float) → T (fits binary64 a) → isZero a ≡ false → finite (mul binary64 (twoTo 1) a) ≡ true → isZero (mul binary64 (twoTo 1) a) ≡ false
+pub double-not-zero : (a : Float) → T (fits binary64 a) → isZero a ≡ false → finite (mul binary64 (twoTo 1) a) ≡ true
+    → isZero (mul binary64 (twoTo 1) a) ≡ false
 double-not-zero a f h g = zero-scaled a (mul binary64 (twoTo 1) a) (twice a f g) h
 
 -- ---- the law
 
-pub above-range : (a x : Float) (n : ℕ) → T (fits binary64 a) → isZero a ≡ false → powerRule a (pos n) ≡ value x → atMostLeast x ≡ false → products inRange a n ≡ true
+pub above-range : (a x : Float) (n : ℕ) → T (fits binary64 a) → isZero a ≡ false → powerRule a (pos n) ≡ value x → atMostLeast x ≡ false
+    → products inRange a n ≡ true
 above-range a x n f h p t =
     let k = accepted-normal a x n f h p in
     weaker above-least inRange in-range one a (bits n)

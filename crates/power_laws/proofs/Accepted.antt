@@ -112,7 +112,8 @@ pub record Accepted (a y : Float) (n : ℕ) : Type 0 where
   pub is : y ≡ overBits (λ r. r) one a (bits n)
   pub normal-products : products normal a n ≡ true
 
-bits-of : (a y : Float) (n : ℕ) (p q : Bool) (o : Outcome Float) → cond p (cond q (then o (bySign a (pos n))) (refused 3)) (refused 1) ≡ value y → (p ≡ true) × (o ≡ value y)
+bits-of : (a y : Float) (n : ℕ) (p q : Bool) (o : Outcome Float) → cond p (cond q (then o (bySign a (pos n))) (refused 3)) (refused 1) ≡ value y
+    → (p ≡ true) × (o ≡ value y)
 bits-of a y n true true (value x) e = (refl, e)
 bits-of a y n true true (refused k) e = absurd (other k y e)
 bits-of a y n true false o e = absurd (other 3 y e)
@@ -216,7 +217,8 @@ refused-squares a r x (true ∷ c ∷ cs) k h e =
     ap (λ (o : Outcome Float). then o (λ r'. then (checkPower a w) (λ x2. byBitsAndSquares a r' x2 (c ∷ cs)))) (look a z h)
     ∙ go (good z) (λ d. refused-squares a z w (c ∷ cs) k h d) (sym (ap (λ (o : Outcome Float). then o (λ r'. byBits a r' w (c ∷ cs))) (look a z h)) ∙ e)
   where
-    go : (b : Bool) → (byBits a (mul binary64 r x) (mul binary64 x x) (c ∷ cs) ≡ refused k → byBitsAndSquares a (mul binary64 r x) (mul binary64 x x) (c ∷ cs) ≡ refused k)
+    go : (b : Bool)
+        → (byBits a (mul binary64 r x) (mul binary64 x x) (c ∷ cs) ≡ refused k → byBitsAndSquares a (mul binary64 r x) (mul binary64 x x) (c ∷ cs) ≡ refused k)
         → then (cond b (value (mul binary64 r x)) (refused 5)) (λ r'. byBits a r' (mul binary64 x x) (c ∷ cs)) ≡ refused k
         → then (cond b (value (mul binary64 r x)) (refused 5)) (λ r'. then (checkPower a (mul binary64 x x)) (λ x2. byBitsAndSquares a r' x2 (c ∷ cs))) ≡ refused k
     go true f d = squared a (mul binary64 r x) (mul binary64 x x) (c ∷ cs) k h d (f d)

@@ -68,7 +68,8 @@ held-bits a r x y (true ∷ bs) h e = go (checkPower a z) refl (λ w k. held-bit
     z : Float
     z = mul binary64 r x
 
-    go : (o : Outcome Float) → checkPower a z ≡ o → ((w : Float) → Held w → byBits a w (mul binary64 x x) bs ≡ value y → Held y) → then o (λ r'. byBits a r' (mul binary64 x x) bs) ≡ value y → Held y
+    go : (o : Outcome Float) → checkPower a z ≡ o → ((w : Float) → Held w → byBits a w (mul binary64 x x) bs ≡ value y → Held y)
+        → then o (λ r'. byBits a r' (mul binary64 x x) bs) ≡ value y → Held y
     go (value w) k f e = f w (held z w (seen (subnormal z && not (isZero a)) z w k) (mul-fits binary64 r x)) e
     go (refused j) k f e = absurd (other j y e)
 held-bits a r x y (false ∷ bs) h e = held-bits a r (mul binary64 x x) y bs h e
@@ -83,7 +84,8 @@ held-power : (a : Float) (n : ℤ) (y : Float) → powerRule a n ≡ value y →
 unfolding powerRule
 held-power a n y e = go (finite a) (leb (natAbs n) 64) (byBits a one a (bits (natAbs n))) refl e
   where
-    go : (p q : Bool) (o : Outcome Float) → byBits a one a (bits (natAbs n)) ≡ o → cond p (cond q (then o (bySign a n)) (refused 3)) (refused 1) ≡ value y → Held y
+    go : (p q : Bool) (o : Outcome Float) → byBits a one a (bits (natAbs n)) ≡ o → cond p (cond q (then o (bySign a n)) (refused 3)) (refused 1) ≡ value y
+        → Held y
     go true true (value r) k e = held-sign a n r y (held-bits a one a r (bits (natAbs n)) (refl, unfold fits in tt) k) e
     go true true (refused j) k e = absurd (other j y e)
     go true false o k e = absurd (other 3 y e)

@@ -29,12 +29,14 @@ module _ (κs ls : Lfts 0) (a : Dens κs kinds.ps) (b : Dens ls kinds.ps)
   sign u v = q ∙ ap₂ powerRule u v ∙ sign-law (a .0) (a .1 .0) ∙ ap (turned (odd (natAbs (a .1 .0)))) (sym p)
 
   -- where n is odd: the two values differ in the sign bit alone
-  pub sign-bit : b .0 ≡ neg (a .0) → b .1 .0 ≡ a .1 .0 → odd (natAbs (a .1 .0)) ≡ true → (x : Float) → paper r ≡ value x → (y : Float) × (paper s ≡ value y) × SignBitOnly x y
+  pub sign-bit : b .0 ≡ neg (a .0) → b .1 .0 ≡ a .1 .0 → odd (natAbs (a .1 .0)) ≡ true → (x : Float) → paper r ≡ value x
+      → (y : Float) × (paper s ≡ value y) × SignBitOnly x y
   sign-bit u v o x h =
       (neg x, sign u v ∙ ap (λ (t : Bool). turned t (paper r)) o ∙ ap (turned true) h, turned-bits (a .0) (a .1 .0) x (sym p ∙ h))
 
   -- b is a, and n is -m, for an m from 0 on: both accepted
-  pub inverse : (n : ℕ) → b .0 ≡ a .0 → a .1 .0 ≡ pos n → b .1 .0 ≡ negℤ (pos n) → (x y : Float) → paper r ≡ value x → paper s ≡ value y → y ≡ div binary64 one x
+  pub inverse : (n : ℕ) → b .0 ≡ a .0 → a .1 .0 ≡ pos n → b .1 .0 ≡ negℤ (pos n) → (x y : Float) → paper r ≡ value x → paper s ≡ value y
+      → y ≡ div binary64 one x
   inverse n u v w x y h k =
       inverse-law (a .0) n x y (sym (p ∙ ap (powerRule (a .0)) v) ∙ h) (sym (q ∙ ap₂ powerRule u w) ∙ k)
 

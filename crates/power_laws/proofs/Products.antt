@@ -35,7 +35,8 @@ pub record Under (z x : Float) : Type 0 where
   pub most : num z * den x ≤ num x * den z
 
 -- a rounded fraction that is at most a number of the format
-pub rounded-under : (s : Bool) (N D : ℕ) (t : Bool) (n : ℕ) (d : ℤ) → T (fits binary64 (fin t n d)) → 0 < D → N * down d ≤ n * up d * D → Under (round binary64 s N D) (fin t n d)
+pub rounded-under : (s : Bool) (N D : ℕ) (t : Bool) (n : ℕ) (d : ℤ) → T (fits binary64 (fin t n d)) → 0 < D → N * down d ≤ n * up d * D
+    → Under (round binary64 s N D) (fin t n d)
 rounded-under s N D t n d h P l =
     let z = round binary64 false N D in
     let below = subst (λ (y : Float). T (le z y)) (again false n d (other-sign t false n d h)) (round-mono binary64 N D (n * up d) (down d) P (down-pos d) l) in
@@ -61,14 +62,16 @@ by-left A B C D h =
 under-right : (r x : Float) → Most 0 r → finite x ≡ true → T (fits binary64 x) → Under (mul binary64 r x) x
 under-right r x b f h = of-finite (λ r x. Most 0 r → T (fits binary64 x) → Under (mul binary64 r x) x) r x (b .kept) f by-parts b h
   where
-    by-parts : (s : Bool) (m : ℕ) (e : ℤ) (t : Bool) (n : ℕ) (d : ℤ) → Most 0 (fin s m e) → T (fits binary64 (fin t n d)) → Under (mul binary64 (fin s m e) (fin t n d)) (fin t n d)
+    by-parts : (s : Bool) (m : ℕ) (e : ℤ) (t : Bool) (n : ℕ) (d : ℤ) → Most 0 (fin s m e) → T (fits binary64 (fin t n d))
+        → Under (mul binary64 (fin s m e) (fin t n d)) (fin t n d)
     by-parts s m e t n d b h =
         unfold mul in rounded-under (unlike s t) (m * up e * (n * up d)) (down e * down d) t n d h (mul-pos (down-pos e) (down-pos d)) (by-right (m * up e) (n * up d) (down e) (down d) (b .most))
 
 under-left : (r x : Float) → finite r ≡ true → T (fits binary64 r) → Most 0 x → Under (mul binary64 r x) r
 under-left r x f h b = of-finite (λ r x. T (fits binary64 r) → Most 0 x → Under (mul binary64 r x) r) r x f (b .kept) by-parts h b
   where
-    by-parts : (s : Bool) (m : ℕ) (e : ℤ) (t : Bool) (n : ℕ) (d : ℤ) → T (fits binary64 (fin s m e)) → Most 0 (fin t n d) → Under (mul binary64 (fin s m e) (fin t n d)) (fin s m e)
+    by-parts : (s : Bool) (m : ℕ) (e : ℤ) (t : Bool) (n : ℕ) (d : ℤ) → T (fits binary64 (fin s m e)) → Most 0 (fin t n d)
+        → Under (mul binary64 (fin s m e) (fin t n d)) (fin s m e)
     by-parts s m e t n d h b =
         unfold mul in rounded-under (unlike s t) (m * up e * (n * up d)) (down e * down d) s m e h (mul-pos (down-pos e) (down-pos d)) (by-left (m * up e) (n * up d) (down e) (down d) (b .most))
 

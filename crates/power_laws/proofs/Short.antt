@@ -20,11 +20,13 @@ use Rattle.power_laws.proofs.Smallest.{accepted-range}
 
 module _ (a : Float) (n : ℕ) (f : T (fits binary64 a)) (h : isZero a ≡ false) (l : n ≤ 64) (g : finite (mul binary64 (twoTo 1) a) ≡ true) where
   -- both are accepted
-  pub doubling-accepted : (x y : Float) → powerRule a (pos n) ≡ value x → powerRule (mul binary64 (twoTo 1) a) (pos n) ≡ value y → Doubled a (mul binary64 (twoTo 1) a) n
+  pub doubling-accepted : (x y : Float) → powerRule a (pos n) ≡ value x → powerRule (mul binary64 (twoTo 1) a) (pos n) ≡ value y
+      → Doubled a (mul binary64 (twoTo 1) a) n
   doubling-accepted x y p q =
       let b = mul binary64 (twoTo 1) a in
       doubled a b n l (twice a f g) (accepted-range a x n f h l p) (accepted-normal b y n (mul-fits binary64 (twoTo 1) a) (double-not-zero a f h g) q .normal-products)
 
   -- every product of both computations, rounded, is normal
-  pub doubling-normal : finite a ≡ true → products normal a n ≡ true → products normal (mul binary64 (twoTo 1) a) n ≡ true → Doubled a (mul binary64 (twoTo 1) a) n
+  pub doubling-normal : finite a ≡ true → products normal a n ≡ true → products normal (mul binary64 (twoTo 1) a) n ≡ true
+      → Doubled a (mul binary64 (twoTo 1) a) n
   doubling-normal k p q = doubling-accepted _ _ (accepted a n k l p) (accepted (mul binary64 (twoTo 1) a) n g l q)

@@ -37,7 +37,8 @@ use Rattle.power_laws.proofs.Above as above-least
 
 -- ---- powers grow with the size of the base
 
-below-finite : (s t : Bool) (N D N' D' : ℕ) → 0 < D → 0 < D' → N * D' ≤ N' * D → finite (round binary64 t N' D') ≡ true → Under (round binary64 s N D) (round binary64 t N' D')
+below-finite : (s t : Bool) (N D N' D' : ℕ) → 0 < D → 0 < D' → N * D' ≤ N' * D → finite (round binary64 t N' D') ≡ true
+    → Under (round binary64 s N D) (round binary64 t N' D')
 below-finite s t N D N' D' P P' h f =
     let e = round-size N D s in
     let e' = round-size N' D' t in
@@ -52,11 +53,13 @@ below-finite s t N D N' D' P P' h f =
         subst (λ (x : Float). Under z x) (sym (w .2)) (subst (λ (x : Float). Under x (fin false (w .0) (w .1))) (sym (v .2))
         (record { kept = refl; most = le-sizes (v .0) (v .1) (w .0) (w .1) (subst (λ (x : Float). T (le (fin false (v .0) (v .1)) x)) (w .2) (subst (λ (x : Float). T (le x y)) (v .2) b)) }))
 
-mul-under : (r x r' x' : Float) → finite r' ≡ true → finite x' ≡ true → Under r r' → Under x x' → kept r' x' ≡ true → Under (mul binary64 r x) (mul binary64 r' x')
+mul-under : (r x r' x' : Float) → finite r' ≡ true → finite x' ≡ true → Under r r' → Under x x' → kept r' x' ≡ true
+    → Under (mul binary64 r x) (mul binary64 r' x')
 mul-under r x r' x' f g u v k =
     of-finite (λ r x. (r' x' : Float) → finite r' ≡ true → finite x' ≡ true → Under r r' → Under x x' → kept r' x' ≡ true → Under (mul binary64 r x) (mul binary64 r' x')) r x (u .kept) (v .kept) outer r' x' f g u v k
   where
-    outer : (s : Bool) (m : ℕ) (e : ℤ) (t : Bool) (n : ℕ) (d : ℤ) (r' x' : Float) → finite r' ≡ true → finite x' ≡ true → Under (fin s m e) r' → Under (fin t n d) x'
+    outer : (s : Bool) (m : ℕ) (e : ℤ) (t : Bool) (n : ℕ) (d : ℤ) (r' x' : Float) → finite r' ≡ true → finite x' ≡ true → Under (fin s m e) r'
+        → Under (fin t n d) x'
         → kept r' x' ≡ true → Under (mul binary64 (fin s m e) (fin t n d)) (mul binary64 r' x')
     outer s m e t n d r' x' f g u v k =
         of-finite (λ r' x'. Under (fin s m e) r' → Under (fin t n d) x' → kept r' x' ≡ true → Under (mul binary64 (fin s m e) (fin t n d)) (mul binary64 r' x')) r' x' f g inner u v k
@@ -177,7 +180,8 @@ between a x n w q h e k t =
       below (right C D e'') (leb (num hi * den a) (num a * den hi)) refl,
     )
   where
-    above : subnormal (raw (place w q) n) ≡ true → products kept (place w q) n ≡ true → (b : Bool) → leb (num a * 2 ^ suc w) (q * 1 * den a) ≡ b → q * 1 * den a < num a * 2 ^ suc w
+    above : subnormal (raw (place w q) n) ≡ true → products kept (place w q) n ≡ true → (b : Bool) → leb (num a * 2 ^ suc w) (q * 1 * den a) ≡ b
+        → q * 1 * den a < num a * 2 ^ suc w
     above s c true l =
         let u = grown one a one (place w q) (bits n) refl refl one-under (record { kept = k .finite-base; most = leb-true (num a * 2 ^ suc w) (q * 1 * den a) l }) c in
         never (sym (ap subnormal (k .is) ∙ accept.smaller (raw a n) (raw (place w q) n) u (subnormal-finite (raw (place w q) n) s) s) ∙ k .normal-value)
@@ -219,7 +223,8 @@ counted q k h d p u v = (
 )
 
 -- two f64s of one sign and size are one
-the-same : (s : Bool) (m : ℕ) (e : ℤ) (n j w k : ℕ) → T (fits binary64 (fin s m e)) → T (fits binary64 (fin s n (negsuc j))) → m * up e * 2 ^ w ≡ k * down e → n * 1 * 2 ^ w ≡ k * 2 ^ suc j
+the-same : (s : Bool) (m : ℕ) (e : ℤ) (n j w k : ℕ) → T (fits binary64 (fin s m e)) → T (fits binary64 (fin s n (negsuc j))) → m * up e * 2 ^ w ≡ k * down e
+    → n * 1 * 2 ^ w ≡ k * 2 ^ suc j
     → fin s m e ≡ fin s n (negsuc j)
 the-same s m e n j w k f g u v =
     let p = parts s m e f in
@@ -231,7 +236,8 @@ the-same s m e n j w k f g u v =
     crossed M d A k L W p u v = eq-of-mul-eq-mul-right d p (A * W) (k * L)
         (mul-right-comm A W d ∙ ap (λ (x : ℕ). x * W) (sym u) ∙ mul-right-comm M L W ∙ ap (λ (x : ℕ). x * L) v ∙ mul-right-comm k d L)
 
-by-gap : (s : Bool) (m : ℕ) (e : ℤ) (x : Float) (n : ℕ) (g : Gap) → T (fits binary64 (fin s m e)) → holds n g ≡ true → Accepted (fin s m e) x n → atMostLeast x ≡ true
+by-gap : (s : Bool) (m : ℕ) (e : ℤ) (x : Float) (n : ℕ) (g : Gap) → T (fits binary64 (fin s m e)) → holds n g ≡ true → Accepted (fin s m e) x n
+    → atMostLeast x ≡ true
     → products inRange (fin s m e) n ≡ true
 by-gap s m e x n (none w q) f h k t =
     let z = between (fin s m e) x n w q (q + 1) h k t in
@@ -260,7 +266,8 @@ by-gap s m e x n (single w q m0 j) f h k t =
     middle : (q k : ℕ) → q < k → k < q + 2 → k ≡ q + 1
     middle q k u v = omega arith
 
-    by-sign : (s : Bool) → products inRange (fin false m0 (negsuc j)) n ≡ true → products inRange (fin true m0 (negsuc j)) n ≡ true → products inRange (fin s m0 (negsuc j)) n ≡ true
+    by-sign : (s : Bool) → products inRange (fin false m0 (negsuc j)) n ≡ true → products inRange (fin true m0 (negsuc j)) n ≡ true
+        → products inRange (fin s m0 (negsuc j)) n ≡ true
     by-sign true p q = q
     by-sign false p q = p
 
@@ -289,7 +296,8 @@ first s m e f h =
     turn true h = never (sym h)
     turn false h = refl
 
-at-least : (s : Bool) (m : ℕ) (e : ℤ) (x : Float) (n : ℕ) → T (fits binary64 (fin s m e)) → n ≤ 64 → Accepted (fin s m e) x n → atMostLeast x ≡ true → products inRange (fin s m e) n ≡ true
+at-least : (s : Bool) (m : ℕ) (e : ℤ) (x : Float) (n : ℕ) → T (fits binary64 (fin s m e)) → n ≤ 64 → Accepted (fin s m e) x n → atMostLeast x ≡ true
+    → products inRange (fin s m e) n ≡ true
 unfolding everyProduct lowest size
 at-least s m e x zero f l k t = refl
 at-least s m e x (suc zero) f l k t = first s m e f (k .normal-products)

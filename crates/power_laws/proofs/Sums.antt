@@ -35,7 +35,8 @@ even-factor d v k x h = after (fallen d k x) (raised (neg v) (left d k)) (raised
 
 -- ---- a sum
 
-total-same : {R : Type 0} (f : R → Bool) (t u : R → Outcome Float) → ((r : R) → f r ≡ true → t r ≡ u r) → (s : Float) (rs : List R) → every f rs ≡ true → total t s rs ≡ total u s rs
+total-same : {R : Type 0} (f : R → Bool) (t u : R → Outcome Float) → ((r : R) → f r ≡ true → t r ≡ u r) → (s : Float) (rs : List R) → every f rs ≡ true
+    → total t s rs ≡ total u s rs
 unfolding total every
 total-same f t u e s [] h = refl
 total-same f t u e s (r ∷ rs) h =
