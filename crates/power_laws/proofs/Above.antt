@@ -43,7 +43,8 @@ smaller z x u f h =
 
 below-one : (x : Float) → finite x ≡ true → atMostLeast x ≡ true → num x ≤ 1 * den x
 below-one x f h =
-    le-trans (grows (num x) (2 ^ 1022) (pow-pos 1022)) (le-trans (leb-true (num x * 2 ^ 1022) (den x) (sym (tiny-is x f) ∙ h)) (le-of-eq (sym (one-mul (den x)))))
+    le-trans (grows (num x) (2 ^ 1022) (pow-pos 1022)) (le-trans (leb-true (num x * 2 ^ 1022) (den x) (sym (tiny-is x f) ∙ h))
+    (le-of-eq (sym (one-mul (den x)))))
 
 above : (A D t : ℕ) → 0 < D → D ≤ A → 2 ≤ t → D < A * t
 above A D t p h l = lt-of-lt-of-le (more A D p h) (mul-le-mul-left A l)
@@ -89,7 +90,8 @@ in-range (fin s m e) (fin t n d) h = go (leb D (N * 2 ^ 1022)) refl
     go : (b : Bool) → leb D (N * 2 ^ 1022) ≡ b → (b && finite z) ≡ true
     go true k = left (finite z) (not (atMostLeast z)) h
     go false k =
-        let u = rounded-under (unlike s t) N D false 1 (negsuc 1021) (unfold fits in tt) (mul-pos (down-pos e) (down-pos d)) (le-trans (le-of-lt (leb-false D (N * 2 ^ 1022) k)) (le-of-eq (sym (one-mul D)))) in
+        let u = rounded-under (unlike s t) N D false 1 (negsuc 1021) (unfold fits in tt) (mul-pos (down-pos e) (down-pos d))
+        (le-trans (le-of-lt (leb-false D (N * 2 ^ 1022) k)) (le-of-eq (sym (one-mul D)))) in
         never (sym (right (finite z) (not (atMostLeast z)) h) ∙ ap not (smaller z (least false) u refl refl))
 
 -- ---- twice a number that is not 0 is not 0
@@ -99,7 +101,8 @@ zero-scaled nan y u h = absurd u
 zero-scaled (inf s) y u h = absurd u
 zero-scaled (fin s m e) nan u h = absurd u
 zero-scaled (fin s m e) (inf t) u h = absurd u
-zero-scaled (fin s m e) (fin t n d) u h = ne-eqb n 0 (λ k. none (up d) (down e) (m * up e) (down d) n k (u .1) (mul-pos (first m (eqb-false m 0 h)) (up-pos e)) (down-pos d))
+zero-scaled (fin s m e) (fin t n d) u h =
+    ne-eqb n 0 (λ k. none (up d) (down e) (m * up e) (down d) n k (u .1) (mul-pos (first m (eqb-false m 0 h)) (up-pos e)) (down-pos d))
   where
     first : (m : ℕ) → (m ≡ 0 → ⊥) → 0 < m
     first zero f = absurd (f refl)
@@ -125,4 +128,5 @@ pub above-range : (a x : Float) (n : ℕ) → T (fits binary64 a) → isZero a �
 above-range a x n f h p t =
     let k = accepted-normal a x n f h p in
     weaker above-least inRange in-range one a (bits n)
-    (good-products atMostLeast smaller below-one not-one a n f (k .finite-base) (subst (λ (z : Float). (finite z && not (atMostLeast z)) ≡ true) (k .is) (rw (k .finite-value, t) refl)))
+    (good-products atMostLeast smaller below-one not-one a n f (k .finite-base)
+    (subst (λ (z : Float). (finite z && not (atMostLeast z)) ≡ true) (k .is) (rw (k .finite-value, t) refl)))

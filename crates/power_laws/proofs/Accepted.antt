@@ -190,7 +190,8 @@ unfolding byBits
 five a r x [] k h e = absurd (other k r (sym e))
 five a r x (true ∷ bs) k h e =
     let z = mul binary64 r x in
-    go (good z) (λ d. five a z (mul binary64 x x) bs k h d) (sym (ap (λ (o : Outcome Float). then o (λ r'. byBits a r' (mul binary64 x x) bs)) (look a z h)) ∙ e)
+    go (good z) (λ d. five a z (mul binary64 x x) bs k h d) (sym
+    (ap (λ (o : Outcome Float). then o (λ r'. byBits a r' (mul binary64 x x) bs)) (look a z h)) ∙ e)
   where
     go : (b : Bool) → (byBits a (mul binary64 r x) (mul binary64 x x) bs ≡ refused k → k ≡ 5)
         → then (cond b (value (mul binary64 r x)) (refused 5)) (λ r'. byBits a r' (mul binary64 x x) bs) ≡ refused k → k ≡ 5
@@ -220,7 +221,8 @@ refused-squares a r x (true ∷ c ∷ cs) k h e =
     go : (b : Bool)
         → (byBits a (mul binary64 r x) (mul binary64 x x) (c ∷ cs) ≡ refused k → byBitsAndSquares a (mul binary64 r x) (mul binary64 x x) (c ∷ cs) ≡ refused k)
         → then (cond b (value (mul binary64 r x)) (refused 5)) (λ r'. byBits a r' (mul binary64 x x) (c ∷ cs)) ≡ refused k
-        → then (cond b (value (mul binary64 r x)) (refused 5)) (λ r'. then (checkPower a (mul binary64 x x)) (λ x2. byBitsAndSquares a r' x2 (c ∷ cs))) ≡ refused k
+        → then (cond b (value (mul binary64 r x)) (refused 5)) (λ r'. then (checkPower a (mul binary64 x x)) (λ x2. byBitsAndSquares a r' x2 (c ∷ cs)))
+        ≡ refused k
     go true f d = squared a (mul binary64 r x) (mul binary64 x x) (c ∷ cs) k h d (f d)
     go false f d = d
 refused-squares a r x (false ∷ c ∷ cs) k h e = squared a r (mul binary64 x x) (c ∷ cs) k h e (refused-squares a r (mul binary64 x x) (c ∷ cs) k h e)

@@ -60,7 +60,8 @@ parts s (suc m) e h =
     let top = ltb→lt (suc m * up e) (2 ^ 1024 * down e) (and-r (o && a && b) c h) in
     let fine = leb→le (down e) (2 ^ 1074) (and-r (o && a) b (and-l (o && a && b) c h)) in
     let z = shifted 1074 e fine in
-    let equal : suc m * up e * 2 ^ 1074 ≡ suc m * 2 ^ (z .0) * down e = mul-assoc (suc m) (up e) (2 ^ 1074) ∙ ap (λ (x : ℕ). suc m * x) (z .1) ∙ sym (mul-assoc (suc m) (2 ^ (z .0)) (down e)) in
+    let equal : suc m * up e * 2 ^ 1074 ≡ suc m * 2 ^ (z .0) * down e = mul-assoc (suc m) (up e) (2 ^ 1074) ∙ ap (λ (x : ℕ). suc m * x) (z .1) ∙ sym
+    (mul-assoc (suc m) (2 ^ (z .0)) (down e)) in
     record {
       shift = z .0;
       exact = equal;

@@ -1,4 +1,5 @@
--- The doubling law on f64s: twice a number is exact where it is finite, and a power times 2^n is one f64. In order: 2^k times a number, twice a number, the law. Assumes nothing.
+-- The doubling law on f64s: twice a number is exact where it is finite, and a power times 2^n is one f64. In order: 2^k times a number, twice a number, the
+-- law. Assumes nothing.
 use mathlib.Core.Path.{_≡_, refl, sym, ap, _∙_, subst}
 use mathlib.Core.Bool.{Bool, true, false, not, _&&_}
 use mathlib.Core.List.{List, [], _∷_}
@@ -83,10 +84,12 @@ twice (fin s m e) h f = go (ltb (m * 2 ^ suc j) (2 ^ 2098)) refl
     D-pos = mul-pos (pow-pos 0) (down-pos e)
 
     units : (a l q d : ℕ) → a * l ≡ q * d → 1 * 2 ^ 1 * a * l ≡ q * 2 * (1 * d)
-    units a l q d h = mul-assoc 2 a l ∙ ap (λ (x : ℕ). 2 * x) h ∙ sym (mul-assoc 2 q d) ∙ ap (λ (x : ℕ). x * d) (mul-comm 2 q) ∙ ap (λ (x : ℕ). q * 2 * x) (sym (one-mul d))
+    units a l q d h =
+        mul-assoc 2 a l ∙ ap (λ (x : ℕ). 2 * x) h ∙ sym (mul-assoc 2 q d) ∙ ap (λ (x : ℕ). x * d) (mul-comm 2 q) ∙ ap (λ (x : ℕ). q * 2 * x) (sym (one-mul d))
 
     exact : N * 2 ^ 1074 ≡ m * 2 ^ suc j * D
-    exact = units (m * up e) (2 ^ 1074) (m * 2 ^ j) (down e) (p .exact) ∙ ap (λ (x : ℕ). x * D) (mul-assoc m (2 ^ j) 2 ∙ ap (λ (x : ℕ). m * x) (sym (pow-suc 2 j)))
+    exact =
+        units (m * up e) (2 ^ 1074) (m * 2 ^ j) (down e) (p .exact) ∙ ap (λ (x : ℕ). x * D) (mul-assoc m (2 ^ j) 2 ∙ ap (λ (x : ℕ). m * x) (sym (pow-suc 2 j)))
 
     go : (b : Bool) → ltb (m * 2 ^ suc j) (2 ^ 2098) ≡ b → Scaled 1 (fin s m e) (round binary64 (unlike false s) N D)
     go true l =
@@ -101,7 +104,8 @@ twice (fin s m e) h f = go (ltb (m * 2 ^ suc j) (2 ^ 2098)) refl
         (subst (λ (z : Float). T (le z (round binary64 false N D))) infinite (round-mono binary64 (2 ^ 1024) 1 N D (pow-pos 0) D-pos over)))
       where
         cleared : (h l q d n : ℕ) → h * l ≤ q → n * l ≡ q * d → h * d * l ≤ n * 1 * l
-        cleared h l q d n g e = le-trans (le-of-eq (mul-right-comm h d l)) (le-trans (mul-le-mul-right d g) (le-of-eq (sym e ∙ ap (λ (x : ℕ). x * l) (sym (mul-one n)))))
+        cleared h l q d n g e =
+            le-trans (le-of-eq (mul-right-comm h d l)) (le-trans (mul-le-mul-right d g) (le-of-eq (sym e ∙ ap (λ (x : ℕ). x * l) (sym (mul-one n)))))
 
 -- ---- the law on f64s
 

@@ -31,7 +31,8 @@ weaker p q f r x (false ∷ []) h = refl
 weaker p q f r x (true ∷ c ∷ cs) h =
     let rest = everyProduct p (mul binary64 r x) (mul binary64 x x) (c ∷ cs) in
     let g = right (p r x) (p x x && rest) h in
-    rw (f r x (left (p r x) (p x x && rest) h), f x x (left (p x x) rest g)) (weaker p q f (mul binary64 r x) (mul binary64 x x) (c ∷ cs) (right (p x x) rest g))
+    rw (f r x (left (p r x) (p x x && rest) h), f x x (left (p x x) rest g))
+    (weaker p q f (mul binary64 r x) (mul binary64 x x) (c ∷ cs) (right (p x x) rest g))
 weaker p q f r x (false ∷ c ∷ cs) h =
     let rest = everyProduct p r (mul binary64 x x) (c ∷ cs) in
     rw (f x x (left (p x x) rest h)) (weaker p q f r (mul binary64 x x) (c ∷ cs) (right (p x x) rest h))
@@ -96,14 +97,16 @@ scaled-bits zero n i j r x r' x' l u v p q =
     none : (i j : ℕ) → i ≡ i + j * 0
     none i j = omega arith
 scaled-bits (suc zero) n i j r x r' x' l u v p q =
-    subst (λ (k : ℕ). Scaled k (times (odd n) r x) (times (odd n) r' x')) (last-count (odd n) n i j refl (omega arith)) (bit-scaled (odd n) i j r x r' x' u v p q)
+    subst (λ (k : ℕ). Scaled k (times (odd n) r x) (times (odd n) r' x')) (last-count (odd n) n i j refl (omega arith))
+    (bit-scaled (odd n) i j r x r' x' u v p q)
 scaled-bits (suc (suc k)) n i j r x r' x' l u v p q =
     let half : n / 2 < 2 ^ suc k = let z : 2 ^ suc (suc k) ≡ 2 ^ suc k * 2 = pow-suc 2 (suc k) in omega arith in
     let rest = everyProduct inRange (times (odd n) r x) (mul binary64 x x) (lowest (suc k) (n / 2)) in
     let rest' = everyProduct kept (times (odd n) r' x') (mul binary64 x' x') (lowest (suc k) (n / 2)) in
     let above = right (ofBit inRange (odd n) r x) (inRange x x && rest) p in
     let above' = right (ofBit kept (odd n) r' x') (kept x' x' && rest') q in
-    subst (λ (k' : ℕ). Scaled k' (overBits (λ r. r) (times (odd n) r x) (mul binary64 x x) (lowest (suc k) (n / 2))) (overBits (λ r. r) (times (odd n) r' x') (mul binary64 x' x') (lowest (suc k) (n / 2))))
+    subst (λ (k' : ℕ). Scaled k' (overBits (λ r. r) (times (odd n) r x) (mul binary64 x x) (lowest (suc k) (n / 2)))
+    (overBits (λ r. r) (times (odd n) r' x') (mul binary64 x' x') (lowest (suc k) (n / 2))))
     (count (odd n) n i j refl)
     (scaled-bits (suc k) (n / 2) (plus (odd n) i j) (j + j) (times (odd n) r x) (mul binary64 x x) (times (odd n) r' x') (mul binary64 x' x') half
     (bit-scaled (odd n) i j r x r' x' u v (left (ofBit inRange (odd n) r x) (inRange x x && rest) p) (left (ofBit kept (odd n) r' x') (kept x' x' && rest') q))
@@ -133,7 +136,8 @@ accepted-bits a r x (true ∷ c ∷ cs) h =
     let rest = everyProduct normal (mul binary64 r x) (mul binary64 x x) (c ∷ cs) in
     rw (taken a r x (left (normal r x) (normal x x && rest) h))
     (accepted-bits a (mul binary64 r x) (mul binary64 x x) (c ∷ cs) (right (normal x x) rest (right (normal r x) (normal x x && rest) h)))
-accepted-bits a r x (false ∷ c ∷ cs) h = accepted-bits a r (mul binary64 x x) (c ∷ cs) (right (normal x x) (everyProduct normal r (mul binary64 x x) (c ∷ cs)) h)
+accepted-bits a r x (false ∷ c ∷ cs) h =
+    accepted-bits a r (mul binary64 x x) (c ∷ cs) (right (normal x x) (everyProduct normal r (mul binary64 x x) (c ∷ cs)) h)
 
 pub accepted : (a : Float) (n : ℕ) → finite a ≡ true → n ≤ 64 → products normal a n ≡ true → powerRule a (pos n) ≡ value (overBits (λ r. r) one a (bits n))
 unfolding powerRule

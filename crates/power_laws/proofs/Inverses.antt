@@ -12,7 +12,8 @@ use Rattle.rules.specs.Power.{one, bits, checkPower, byBits, bySign, powerRule}
 use Rattle.power_laws.specs.Laws.{inverted}
 
 by-parts : (a : Float) (k : ℕ) (p q : Bool) (o : Outcome Float)
-    → cond p (cond q (then o (bySign a (negsuc k))) (refused 3)) (refused 1) ≡ inverted a (cond p (cond q (then o (bySign a (pos (suc k)))) (refused 3)) (refused 1))
+    → cond p (cond q (then o (bySign a (negsuc k))) (refused 3)) (refused 1) ≡ inverted a
+    (cond p (cond q (then o (bySign a (pos (suc k)))) (refused 3)) (refused 1))
 by-parts a k true true (value x) = refl
 by-parts a k true true (refused n) = refl
 by-parts a k true false o = refl

@@ -45,7 +45,8 @@ unfolding powerRule toBits round neg mul div
 signs = (refl, refl, refl, refl, refl, refl, refl, refl, refl, refl)
 
 -- ---- inverse: both accepted; and the f64 after 2^1022, whose power at 1 is accepted and at -1 is not
-pub inverses : map told (powerRule (decimal 1_1 1) (pos 3) ∷ powerRule (decimal 1_1 1) (negsuc 2) ∷ powerRule (fin false 0x10000000000001 (pos 970)) (pos 1) ∷ powerRule (fin false 0x10000000000001 (pos 970)) (negsuc 0) ∷ [])
+pub inverses : map told (powerRule (decimal 1_1 1) (pos 3) ∷ powerRule (decimal 1_1 1) (negsuc 2) ∷ powerRule (fin false 0x10000000000001 (pos 970))
+    (pos 1) ∷ powerRule (fin false 0x10000000000001 (pos 970)) (negsuc 0) ∷ [])
     ≡ (0, 0x3ff54bc6a7ef9db4) ∷ (0, 0x3fe80ac5565befd6) ∷ (0, 0x7fd0000000000001) ∷ (5, 0) ∷ []
 unfolding powerRule toBits round mul div
 inverses = refl

@@ -52,11 +52,13 @@ rounded-under s N D t n d h P l =
 
 by-right : (A B C D : ℕ) → A ≤ 1 * C → A * B * D ≤ B * (C * D)
 by-right A B C D h =
-    le-trans (mul-le-mul-right D (mul-le-mul-right B h)) (le-of-eq (ap (λ (x : ℕ). x * B * D) (one-mul C) ∙ ap (λ (x : ℕ). x * D) (mul-comm C B) ∙ mul-assoc B C D))
+    le-trans (mul-le-mul-right D (mul-le-mul-right B h)) (le-of-eq
+    (ap (λ (x : ℕ). x * B * D) (one-mul C) ∙ ap (λ (x : ℕ). x * D) (mul-comm C B) ∙ mul-assoc B C D))
 
 by-left : (A B C D : ℕ) → B ≤ 1 * D → A * B * C ≤ A * (C * D)
 by-left A B C D h =
-    le-trans (mul-le-mul-right C (mul-le-mul-left A h)) (le-of-eq (ap (λ (x : ℕ). A * x * C) (one-mul D) ∙ mul-assoc A D C ∙ ap (λ (x : ℕ). A * x) (mul-comm D C)))
+    le-trans (mul-le-mul-right C (mul-le-mul-left A h)) (le-of-eq
+    (ap (λ (x : ℕ). A * x * C) (one-mul D) ∙ mul-assoc A D C ∙ ap (λ (x : ℕ). A * x) (mul-comm D C)))
 
 -- where one factor is at most 1 in size
 under-right : (r x : Float) → Most 0 r → finite x ≡ true → T (fits binary64 x) → Under (mul binary64 r x) x
@@ -65,7 +67,8 @@ under-right r x b f h = of-finite (λ r x. Most 0 r → T (fits binary64 x) → 
     by-parts : (s : Bool) (m : ℕ) (e : ℤ) (t : Bool) (n : ℕ) (d : ℤ) → Most 0 (fin s m e) → T (fits binary64 (fin t n d))
         → Under (mul binary64 (fin s m e) (fin t n d)) (fin t n d)
     by-parts s m e t n d b h =
-        unfold mul in rounded-under (unlike s t) (m * up e * (n * up d)) (down e * down d) t n d h (mul-pos (down-pos e) (down-pos d)) (by-right (m * up e) (n * up d) (down e) (down d) (b .most))
+        unfold mul in rounded-under (unlike s t) (m * up e * (n * up d)) (down e * down d) t n d h (mul-pos (down-pos e) (down-pos d))
+        (by-right (m * up e) (n * up d) (down e) (down d) (b .most))
 
 under-left : (r x : Float) → finite r ≡ true → T (fits binary64 r) → Most 0 x → Under (mul binary64 r x) r
 under-left r x f h b = of-finite (λ r x. T (fits binary64 r) → Most 0 x → Under (mul binary64 r x) r) r x f (b .kept) by-parts h b
@@ -73,7 +76,8 @@ under-left r x f h b = of-finite (λ r x. T (fits binary64 r) → Most 0 x → U
     by-parts : (s : Bool) (m : ℕ) (e : ℤ) (t : Bool) (n : ℕ) (d : ℤ) → T (fits binary64 (fin s m e)) → Most 0 (fin t n d)
         → Under (mul binary64 (fin s m e) (fin t n d)) (fin s m e)
     by-parts s m e t n d h b =
-        unfold mul in rounded-under (unlike s t) (m * up e * (n * up d)) (down e * down d) s m e h (mul-pos (down-pos e) (down-pos d)) (by-left (m * up e) (n * up d) (down e) (down d) (b .most))
+        unfold mul in rounded-under (unlike s t) (m * up e * (n * up d)) (down e * down d) s m e h (mul-pos (down-pos e) (down-pos d))
+        (by-left (m * up e) (n * up d) (down e) (down d) (b .most))
 
 -- where both are at least 1 in size
 rounded-large : (s : Bool) (N D : ℕ) → 0 < D → D ≤ N → finite (round binary64 s N D) ≡ true → den (round binary64 s N D) ≤ num (round binary64 s N D)
@@ -81,7 +85,8 @@ rounded-large s N D P h f =
     let z = round binary64 false N D in
     let e = round-size N D s in
     let is-one : round binary64 false 1 1 ≡ one = unfold round in refl in
-    let above = subst (λ (y : Float). T (le y z)) is-one (round-mono binary64 1 1 N D (pow-pos 0) P (le-trans (le-of-eq (one-mul D)) (le-trans h (le-of-eq (sym (mul-one N)))))) in
+    let above = subst (λ (y : Float). T (le y z)) is-one (round-mono binary64 1 1 N D (pow-pos 0) P
+    (le-trans (le-of-eq (one-mul D)) (le-trans h (le-of-eq (sym (mul-one N)))))) in
     rw (e .over, e .under) (by-shape z (round-shape binary64 false N D) (sym (e .lost) ∙ f) above)
   where
     by-shape : (z : Float) → (z ≡ inf false) ⊎ ((m : ℕ) × (e : ℤ) × (z ≡ fin false m e)) → finite z ≡ true → T (le one z) → den z ≤ num z
@@ -230,7 +235,8 @@ module _ (small : Float → Bool)
           (unfold fits in tt, record { kept = refl; most = omega arith })
           (h, record { kept = f; most = le-trans (leb-true (num a) (den a) e) (le-of-eq (sym (one-mul (den a)))) }) t g
       by-size false e c cs t g =
-          all-good good Large Lost mul-large (λ x b k. never (sym (sym b ∙ k))) (λ r x b i. mul-left r x b) (λ r x i b. mul-right r x b) lost-good kept-lost one a c cs
+          all-good good Large Lost mul-large (λ x b k. never (sym (sym b ∙ k))) (λ r x b i. mul-left r x b)
+          (λ r x i b. mul-right r x b) lost-good kept-lost one a c cs
           (λ k. omega arith) (λ k. le-of-lt (leb-false (num a) (den a) e)) t g
 
       go : (k : ℕ) → n < 2 ^ k → ((j : ℕ) → j < k → 2 ^ j ≤ n) → good (overBits (λ r. r) one a (lowest k n)) ≡ true

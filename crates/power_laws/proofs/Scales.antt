@@ -152,4 +152,5 @@ range-normal (fin s m e) (inf t) h = never (sym h)
 range-normal (fin s m e) (fin t n d) h =
     let N = m * up e * (n * up d) in
     let D = down e * down d in
-    unfold mul in rounded-normal (unlike s t) N D (mul-pos (down-pos e) (down-pos d)) (leb-true D (N * 2 ^ 1022) (left (leb D (N * 2 ^ 1022)) (finite (mul binary64 (fin s m e) (fin t n d))) h))
+    unfold mul in rounded-normal (unlike s t) N D (mul-pos (down-pos e) (down-pos d))
+    (leb-true D (N * 2 ^ 1022) (left (leb D (N * 2 ^ 1022)) (finite (mul binary64 (fin s m e) (fin t n d))) h))

@@ -1,4 +1,5 @@
--- The short form of the doubling law: two accepted powers, of a base that is not 0 and of its double, are enough. For an n from 0 to 64 and a base that is not 0
+-- The short form of the doubling law: two accepted powers, of a base that is not 0 and of its double, are enough. For an n from 0 to 64 and a base that is
+-- not 0
 -- these say the same: the power is accepted; every product on the way, rounded, is normal; every product was in the normal range before it was rounded.
 -- Assumes nothing.
 use mathlib.Core.Path.{_≡_, refl}
@@ -24,7 +25,8 @@ module _ (a : Float) (n : ℕ) (f : T (fits binary64 a)) (h : isZero a ≡ false
       → Doubled a (mul binary64 (twoTo 1) a) n
   doubling-accepted x y p q =
       let b = mul binary64 (twoTo 1) a in
-      doubled a b n l (twice a f g) (accepted-range a x n f h l p) (accepted-normal b y n (mul-fits binary64 (twoTo 1) a) (double-not-zero a f h g) q .normal-products)
+      doubled a b n l (twice a f g) (accepted-range a x n f h l p)
+      (accepted-normal b y n (mul-fits binary64 (twoTo 1) a) (double-not-zero a f h g) q .normal-products)
 
   -- every product of both computations, rounded, is normal
   pub doubling-normal : finite a ≡ true → products normal a n ≡ true → products normal (mul binary64 (twoTo 1) a) n ≡ true

@@ -126,7 +126,8 @@ after-same (refused k) f g h = refl
 base-bits : (a r x : Float) (bs : List Bool) → byBits (neg a) r x bs ≡ byBits a r x bs
 unfolding byBits
 base-bits a r x [] = refl
-base-bits a r x (true ∷ bs) = rw (base-look a (mul binary64 r x)) (after-same (checkPower a (mul binary64 r x)) _ _ (λ r'. base-bits a r' (mul binary64 x x) bs))
+base-bits a r x (true ∷ bs) =
+    rw (base-look a (mul binary64 r x)) (after-same (checkPower a (mul binary64 r x)) _ _ (λ r'. base-bits a r' (mul binary64 x x) bs))
 base-bits a r x (false ∷ bs) = base-bits a r (mul binary64 x x) bs
 
 bits-turned : (a r x : Float) (bs : List Bool) → byBits a (neg r) x bs ≡ minusOf (byBits a r x bs)

@@ -1,4 +1,5 @@
--- The powers that are 2^-1022 itself in size, the smallest that is accepted. There a product could have been below 2^-1022 and rounded up to it, and twice the base
+-- The powers that are 2^-1022 itself in size, the smallest that is accepted. There a product could have been below 2^-1022 and rounded up to it, and twice
+-- the base
 -- would round otherwise. None is: powers grow with the size of the base, so that for each n only the bases between two neighbours can have such a power;
 -- for 57 of the n from 2 to 64 there is none between them, and for 6 one, whose products are worked out here. So the doubling law needs no more than two
 -- accepted powers. Assumes nothing.
@@ -42,7 +43,8 @@ below-finite : (s t : Bool) (N D N' D' : ℕ) → 0 < D → 0 < D' → N * D' �
 below-finite s t N D N' D' P P' h f =
     let e = round-size N D s in
     let e' = round-size N' D' t in
-    let u = by-shape (round binary64 false N D) (round binary64 false N' D') (round-shape binary64 false N D) (round-shape binary64 false N' D') (sym (e' .lost) ∙ f) (round-mono binary64 N D N' D' P P' h) in
+    let u = by-shape (round binary64 false N D) (round binary64 false N' D') (round-shape binary64 false N D) (round-shape binary64 false N' D')
+    (sym (e' .lost) ∙ f) (round-mono binary64 N D N' D' P P' h) in
     record { kept = e .lost ∙ u .kept; most = rw (e .over, e .under, e' .over, e' .under) (u .most) }
   where
     by-shape : (z y : Float) → (z ≡ inf false) ⊎ ((m : ℕ) × (e : ℤ) × (z ≡ fin false m e)) → (y ≡ inf false) ⊎ ((m : ℕ) × (e : ℤ) × (y ≡ fin false m e))
@@ -51,18 +53,24 @@ below-finite s t N D N' D' P P' h f =
     by-shape z y (inl i) (inr w) f b = absurd (unfold le lt eq in subst (λ (x : Float). T (le (inf false) x)) (w .2) (subst (λ (x : Float). T (le x y)) i b))
     by-shape z y (inr v) (inr w) f b =
         subst (λ (x : Float). Under z x) (sym (w .2)) (subst (λ (x : Float). Under x (fin false (w .0) (w .1))) (sym (v .2))
-        (record { kept = refl; most = le-sizes (v .0) (v .1) (w .0) (w .1) (subst (λ (x : Float). T (le (fin false (v .0) (v .1)) x)) (w .2) (subst (λ (x : Float). T (le x y)) (v .2) b)) }))
+        (record {
+          kept = refl;
+          most = le-sizes (v .0) (v .1) (w .0) (w .1)
+              (subst (λ (x : Float). T (le (fin false (v .0) (v .1)) x)) (w .2) (subst (λ (x : Float). T (le x y)) (v .2) b));
+        }))
 
 mul-under : (r x r' x' : Float) → finite r' ≡ true → finite x' ≡ true → Under r r' → Under x x' → kept r' x' ≡ true
     → Under (mul binary64 r x) (mul binary64 r' x')
 mul-under r x r' x' f g u v k =
-    of-finite (λ r x. (r' x' : Float) → finite r' ≡ true → finite x' ≡ true → Under r r' → Under x x' → kept r' x' ≡ true → Under (mul binary64 r x) (mul binary64 r' x')) r x (u .kept) (v .kept) outer r' x' f g u v k
+    of-finite (λ r x. (r' x' : Float) → finite r' ≡ true → finite x' ≡ true → Under r r' → Under x x' → kept r' x' ≡ true → Under (mul binary64 r x)
+    (mul binary64 r' x')) r x (u .kept) (v .kept) outer r' x' f g u v k
   where
     outer : (s : Bool) (m : ℕ) (e : ℤ) (t : Bool) (n : ℕ) (d : ℤ) (r' x' : Float) → finite r' ≡ true → finite x' ≡ true → Under (fin s m e) r'
         → Under (fin t n d) x'
         → kept r' x' ≡ true → Under (mul binary64 (fin s m e) (fin t n d)) (mul binary64 r' x')
     outer s m e t n d r' x' f g u v k =
-        of-finite (λ r' x'. Under (fin s m e) r' → Under (fin t n d) x' → kept r' x' ≡ true → Under (mul binary64 (fin s m e) (fin t n d)) (mul binary64 r' x')) r' x' f g inner u v k
+        of-finite (λ r' x'. Under (fin s m e) r' → Under (fin t n d) x' → kept r' x' ≡ true → Under (mul binary64 (fin s m e) (fin t n d))
+        (mul binary64 r' x')) r' x' f g inner u v k
       where
         crossed : (A B C D A' B' C' D' : ℕ) → A * C' ≤ A' * C → B * D' ≤ B' * D → A * B * (C' * D') ≤ A' * B' * (C * D)
         crossed A B C D A' B' C' D' p q = le-trans (le-of-eq (mul-mul-mul-comm A B C' D')) (le-trans (mul-le-mul p q) (le-of-eq (mul-mul-mul-comm A' C B' D)))
@@ -85,7 +93,8 @@ grown r x r' x' (true ∷ c ∷ cs) f g u v h =
     let k = left (kept r' x') (kept x' x' && rest) h in
     let l = right (kept r' x') (kept x' x' && rest) h in
     let j = left (kept x' x') rest l in
-    grown (mul binary64 r x) (mul binary64 x x) (mul binary64 r' x') (mul binary64 x' x') (c ∷ cs) k j (mul-under r x r' x' f g u v k) (mul-under x x x' x' g g v v j) (right (kept x' x') rest l)
+    grown (mul binary64 r x) (mul binary64 x x) (mul binary64 r' x') (mul binary64 x' x') (c ∷ cs) k j (mul-under r x r' x' f g u v k)
+    (mul-under x x x' x' g g v v j) (right (kept x' x') rest l)
 grown r x r' x' (false ∷ c ∷ cs) f g u v h =
     let rest = everyProduct kept r' (mul binary64 x' x') (c ∷ cs) in
     let j = left (kept x' x') rest h in
@@ -113,7 +122,8 @@ ends n w q h = leb (2 ^ 52) q && (subnormal (raw (place w q) n) && (products kep
 abbrev holds : ℕ → Gap → Bool
 holds n (none w q) = ends n w q (q + 1)
 holds n (single w q m j) =
-    ends n w q (q + 2) && (fits binary64 (fin false m (negsuc j)) && (eqb (m * 1 * 2 ^ suc w) ((q + 1) * 2 ^ suc j) && (products inRange (fin false m (negsuc j)) n && products inRange (fin true m (negsuc j)) n)))
+    ends n w q (q + 2) && (fits binary64 (fin false m (negsuc j)) &&
+    (eqb (m * 1 * 2 ^ suc w) ((q + 1) * 2 ^ suc j) && (products inRange (fin false m (negsuc j)) n && products inRange (fin true m (negsuc j)) n)))
 
 unfoldable hold : ℕ → List Gap → Bool
 hold n [] = true
@@ -121,9 +131,11 @@ hold n (g ∷ gs) = holds n g && hold (suc n) gs
 
 gaps : List Gap
 gaps =
-    single 563 9007199254740991 1 510 ∷ single 392 5674179970822794 5674179970822795 392 ∷ none 307 6369051672525772 ∷ none 256 6826180564135516 ∷ none 222 7149018786131516
+    single 563 9007199254740991 1 510 ∷ single 392 5674179970822794 5674179970822795 392 ∷ none 307 6369051672525772 ∷ none 256 6826180564135516
+    ∷ none 222 7149018786131516
     ∷ single 198 9007199254740991 1 145 ∷ none 179 5355712719992597 ∷ none 165 6128453337714821 ∷ none 154 7841222384935200 ∷ none 144 4796518653536082
-    ∷ none 137 8024502270083369 ∷ single 130 5879501995333721 2939750997666861 129 ∷ single 125 9007199254740991 1 72 ∷ none 120 8212066119472173 ∷ none 115 4911210218475899
+    ∷ none 137 8024502270083369 ∷ single 130 5879501995333721 2939750997666861 129 ∷ single 125 9007199254740991 1 72 ∷ none 120 8212066119472173
+    ∷ none 115 4911210218475899
     ∷ none 112 8301842246985055 ∷ none 108 5253579747951861 ∷ none 105 5211161233453043 ∷ none 103 8404014066019090 ∷ none 100 5674179970822794
     ∷ none 98 6572914060101612 ∷ none 96 6663573054715719 ∷ none 94 6011584269839454 ∷ none 92 4894218721922882 ∷ single 91 7277214164130259 1819303541032565 89
     ∷ none 89 4990646524508719 ∷ none 88 6369051672525772 ∷ none 87 7619515510328020 ∷ none 86 8600448583137597 ∷ none 84 4605432480318680
@@ -183,7 +195,8 @@ between a x n w q h e k t =
     above : subnormal (raw (place w q) n) ≡ true → products kept (place w q) n ≡ true → (b : Bool) → leb (num a * 2 ^ suc w) (q * 1 * den a) ≡ b
         → q * 1 * den a < num a * 2 ^ suc w
     above s c true l =
-        let u = grown one a one (place w q) (bits n) refl refl one-under (record { kept = k .finite-base; most = leb-true (num a * 2 ^ suc w) (q * 1 * den a) l }) c in
+        let u = grown one a one (place w q) (bits n) refl refl one-under
+        (record { kept = k .finite-base; most = leb-true (num a * 2 ^ suc w) (q * 1 * den a) l }) c in
         never (sym (ap subnormal (k .is) ∙ accept.smaller (raw a n) (raw (place w q) n) u (subnormal-finite (raw (place w q) n) s) s) ∙ k .normal-value)
     above s c false l = leb-false (num a * 2 ^ suc w) (q * 1 * den a) l
 
@@ -191,7 +204,8 @@ between a x n w q h e k t =
     below s true l =
         let c = weaker normal kept normal-is-kept one a (bits n) (k .normal-products) in
         let t' = sym (ap atMostLeast (k .is)) ∙ t in
-        let u = grown one (place w h) one a (bits n) refl (k .finite-base) one-under (record { kept = refl; most = leb-true (h * 1 * den a) (num a * 2 ^ suc w) l }) c in
+        let u = grown one (place w h) one a (bits n) refl (k .finite-base) one-under
+        (record { kept = refl; most = leb-true (h * 1 * den a) (num a * 2 ^ suc w) l }) c in
         never (sym s ∙ ap not (above-least.smaller (raw (place w h) n) (raw a n) u (least-finite (raw a n) t') t'))
     below s false l = leb-false (h * 1 * den a) (num a * 2 ^ suc w) l
 
@@ -203,8 +217,11 @@ multiple w q m (negsuc j) f l h = go (leb (suc j) w) refl
   where
     go : (b : Bool) → leb (suc j) w ≡ b → (k : ℕ) × (m * 1 * 2 ^ w ≡ k * 2 ^ suc j)
     go true c =
-        let g : w - suc j + suc j ≡ w = let z = leb-true (suc j) w c in omega arith in
-        (m * 2 ^ (w - suc j), ap (λ (x : ℕ). x * 2 ^ w) (mul-one m) ∙ ap (λ (x : ℕ). m * 2 ^ x) (sym g) ∙ ap (λ (x : ℕ). m * x) (pow-add 2 (w - suc j) (suc j)) ∙ sym (mul-assoc m (2 ^ (w - suc j)) (2 ^ suc j)))
+        let g : w - suc j + suc j ≡ w = let z = leb-true (suc j) w c in omega arith in (
+          m * 2 ^ (w - suc j),
+          ap (λ (x : ℕ). x * 2 ^ w) (mul-one m) ∙ ap (λ (x : ℕ). m * 2 ^ x) (sym g) ∙ ap (λ (x : ℕ). m * x)
+              (pow-add 2 (w - suc j) (suc j)) ∙ sym (mul-assoc m (2 ^ (w - suc j)) (2 ^ suc j)),
+        )
     go false c =
         let far : suc w ≤ suc j = leb-false (suc j) w c in
         absurd (not-le-of-lt h
@@ -260,7 +277,8 @@ by-gap s m e x n (single w q m0 j) f h k t =
     let c = multiple (suc w) q m e (parts s m e f .few) (z .0) (z .1) in
     let o = counted q (c .0) (q + 2) (down e) (down-pos e) (rw (sym (c .1)) (z .1)) (rw (sym (c .1)) (z .2)) in
     let g = other-sign false s m0 (negsuc j) (subst T (sym (left F (G && (P && Q)) h1)) tt) in
-    let same = the-same s m e m0 j (suc w) (q + 1) f g (c .1 ∙ ap (λ (y : ℕ). y * down e) (middle q (c .0) (o .0) (o .1))) (eqb-true (m0 * 1 * 2 ^ suc w) ((q + 1) * 2 ^ suc j) (left G (P && Q) h2)) in
+    let same = the-same s m e m0 j (suc w) (q + 1) f g (c .1 ∙ ap (λ (y : ℕ). y * down e) (middle q (c .0) (o .0) (o .1)))
+    (eqb-true (m0 * 1 * 2 ^ suc w) ((q + 1) * 2 ^ suc j) (left G (P && Q) h2)) in
     ap (λ (y : Float). products inRange y n) same ∙ by-sign s (left P Q h3) (right P Q h3)
   where
     middle : (q k : ℕ) → q < k → k < q + 2 → k ≡ q + 1
@@ -290,7 +308,8 @@ first s m e f h =
     let z = mul binary64 one (fin s m e) in
     let n : subnormal (fin s m e) ≡ false = sym (ap subnormal (one-times s m e f)) ∙ turn (subnormal z) (right (finite z) (not (subnormal z)) h) in
     rw (le-leb (1 * down e) (1 * 1 * (m * up e) * 2 ^ 1022)
-    (le-trans (le-of-eq (one-mul (down e))) (le-trans (ltb-false (m * up e * 2 ^ 1022) (down e) n) (le-of-eq (ap (λ (x : ℕ). x * 2 ^ 1022) (sym (one-mul (m * up e)))))))) (left (finite z) (not (subnormal z)) h)
+    (le-trans (le-of-eq (one-mul (down e))) (le-trans (ltb-false (m * up e * 2 ^ 1022) (down e) n)
+    (le-of-eq (ap (λ (x : ℕ). x * 2 ^ 1022) (sym (one-mul (m * up e)))))))) (left (finite z) (not (subnormal z)) h)
   where
     turn : (b : Bool) → not b ≡ true → b ≡ false
     turn true h = never (sym h)

@@ -54,7 +54,8 @@ module _ (a b : Order) (rows : List Row) where
   pub even-first : (vi vj : Float) → allEvenFirst a rows ≡ true → sumRule (differentiated a b) (neg vi) vj rows ≡ sumRule (differentiated a b) vi vj rows
   unfolding sumRule
   even-first vi vj h =
-      checked vi _ _ (λ x. after (check vj) _ _ (λ y. total-same (evenFirst a) (differentiated a b (neg x) y) (differentiated a b x y) (by-row x y) zeroF rows h))
+      checked vi _ _ (λ x. after (check vj) _ _ (λ y. total-same (evenFirst a) (differentiated a b (neg x) y) (differentiated a b x y)
+      (by-row x y) zeroF rows h))
     where
       by-row : (x y : Float) (r : Row) → evenFirst a r ≡ true → differentiated a b (neg x) y r ≡ differentiated a b x y r
       by-row x y (row i j n) e = ap (λ (o : Outcome Float). then o (factor b y j)) (even-factor a x i n e)
@@ -62,7 +63,8 @@ module _ (a b : Order) (rows : List Row) where
   pub even-second : (vi vj : Float) → allEvenSecond b rows ≡ true → sumRule (differentiated a b) vi (neg vj) rows ≡ sumRule (differentiated a b) vi vj rows
   unfolding sumRule
   even-second vi vj h =
-      after (check vi) _ _ (λ x. checked vj _ _ (λ y. total-same (evenSecond b) (differentiated a b x (neg y)) (differentiated a b x y) (by-row x y) zeroF rows h))
+      after (check vi) _ _ (λ x. checked vj _ _ (λ y. total-same (evenSecond b) (differentiated a b x (neg y)) (differentiated a b x y)
+      (by-row x y) zeroF rows h))
     where
       by-row : (x y : Float) (r : Row) → evenSecond b r ≡ true → differentiated a b x (neg y) r ≡ differentiated a b x y r
       by-row x y (row i j n) e = after (factor a x i n) _ _ (λ z. even-factor b y j z e)

@@ -1,4 +1,5 @@
--- To believe: what the laws of powers say. In order: the sign law, the inverse law, the doubling law, a rule that looks at squares. Assumes nothing: these are definitions.
+-- To believe: what the laws of powers say. In order: the sign law, the inverse law, the doubling law, a rule that looks at squares. Assumes nothing: these
+-- are definitions.
 use mathlib.Core.Path.{_≡_}
 use mathlib.Core.Bool.{Bool, true, false, not, _&&_}
 use mathlib.Core.List.{List, [], _∷_}
