@@ -3,27 +3,26 @@
 use mathlib.Core.Path.{_≡_, refl, sym, ap, _∙_, subst}
 use mathlib.Core.Bool.{Bool, true, false, not, _&&_, cond}
 use Prim.Native.Nat.{ℕ, zero, suc, _*_, _^_, _≤_, _<_}
-use native.Mathlib.Nat.{le-trans, le-of-eq, le-of-lt, lt-of-lt-of-le, mul-one, one-mul, mul-pos, mul-comm, mul-le-mul-left, mul-lt-mul-of-pos-right}
+use native.Mathlib.Nat.{le-trans, le-of-eq, le-of-lt, lt-of-lt-of-le, mul-one, one-mul, mul-pos, mul-le-mul-left}
 use native.Mathlib.Omega.{arith}
 use lib.Dec.{T, eqb, leb}
-use lib.IntN.{ℤ, pos, negsuc}
+use lib.IntN.{pos, negsuc}
 use lib.Pow.{pow-pos, pow-mono}
 use lib.Ieee.{Float, nan, inf, fin, binary64, up, down, round, mul, fits, unlike}
-use lib.Ieee.Fits.{up-pos, down-pos, mul-fits}
+use lib.Ieee.Fits.{up-pos, down-pos}
 use lib.Ieee.Positive.{num, den, den-pos}
-use borrow.Author.Tests.{le-leb, lt-leb, leb-true, leb-false, eqb-true, eqb-false, ne-eqb}
+use borrow.Author.Tests.{le-leb, lt-leb, leb-true, leb-false, eqb-false, ne-eqb}
 use Rattle.common.specs.Outcome.{value, finite}
 use Rattle.common.proofs.Laws.{never}
-use Rattle.sizes.specs.Lost.{subnormal, isZero}
+use Rattle.sizes.specs.Lost.{isZero}
 use Rattle.sizes.proofs.Looks.{least}
 use Rattle.rules.specs.Power.{one, bits, powerRule}
-use Rattle.rules.specs.RawPower.{overBits}
 use Rattle.power_laws.specs.Laws.{Scaled, twoTo, inRange, products, atMostLeast}
 use Rattle.power_laws.proofs.Scales.{left, right}
 use Rattle.power_laws.proofs.Doubling.{weaker}
 use Rattle.power_laws.proofs.Doubles.{twice}
 use Rattle.power_laws.proofs.Products.{Under, rounded-under, good-products}
-use Rattle.power_laws.proofs.Accepted.{Accepted, accepted-normal, under-at-most, grows}
+use Rattle.power_laws.proofs.Accepted.{accepted-normal, under-at-most, grows}
 
 -- ---- at most 2^-1022 in size
 

@@ -1,17 +1,16 @@
 -- What an accepted power says of the products on the way to it: all of them are normal. So a look at each square too would change no power, and the doubling
 -- law needs no more than that both powers are accepted, where the power of the base is not 2^-1022 itself in size. Assumes nothing.
-use mathlib.Core.Path.{_≡_, refl, sym, ap, _∙_, subst}
+use mathlib.Core.Path.{_≡_, refl, sym, ap, _∙_}
 use mathlib.Core.Bool.{Bool, true, false, not, _&&_, cond}
 use mathlib.Core.List.{List, [], _∷_}
-use Prim.Native.Nat.{ℕ, zero, suc, _*_, _/_, _^_, _≤_, _<_}
-use native.Mathlib.Nat.{le-trans, le-of-eq, le-of-lt, lt-of-le-of-lt, lt-of-lt-of-le, mul-one, one-mul, mul-pos, mul-comm, mul-assoc, mul-right-comm, mul-le-mul-right, mul-le-mul-left, le-of-mul-le-mul-right, mul-lt-mul-of-pos-right, lt-of-not-le, not-le-of-lt}
-use native.Mathlib.Omega.{arith}
+use Prim.Native.Nat.{ℕ, _*_, _^_, _≤_, _<_}
+use native.Mathlib.Nat.{le-trans, le-of-eq, le-of-lt, mul-one, one-mul, mul-comm, mul-assoc, mul-right-comm, mul-le-mul-right, mul-le-mul-left, le-of-mul-le-mul-right, mul-lt-mul-of-pos-right, lt-of-not-le, not-le-of-lt}
 use lib.Dec.{T, leb, ltb}
-use lib.IntN.{ℤ, pos, negsuc, natAbs}
+use lib.IntN.{pos}
 use lib.Pow.{pow-pos}
-use lib.Ieee.{Float, nan, inf, fin, binary64, up, down, size, mul, fits}
+use lib.Ieee.{Float, nan, inf, fin, binary64, mul, fits}
 use lib.Ieee.Positive.{num, den, den-pos}
-use borrow.Author.Tests.{lt-ltb, le-ltb, ltb-true, ltb-false, le-leb, lt-leb, leb-true, leb-false}
+use borrow.Author.Tests.{lt-ltb, le-ltb, ltb-true}
 use Rattle.common.specs.Outcome.{Outcome, value, refused, finite, check, then}
 use Rattle.common.proofs.Laws.{never}
 use Rattle.sizes.specs.Lost.{subnormal, isZero}

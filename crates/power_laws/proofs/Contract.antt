@@ -1,14 +1,14 @@
 -- The laws on the contract of `power` itself: r is any answer that it admits at a and m, and s any that it admits at b and n. Assumes nothing.
-use mathlib.Core.Path.{_≡_, refl, sym, ap, ap₂, _∙_, subst}
+use mathlib.Core.Path.{_≡_, sym, ap, ap₂, _∙_, subst}
 use Prim.Native.Nat.{ℕ, _≤_}
 use mathlib.Core.Bool.{Bool, true, false}
 use lib.Dec.{T}
-use lib.IntN.{ℤ, pos, negℤ, natAbs}
+use lib.IntN.{pos, negℤ, natAbs}
 use lib.Ieee.{Float, binary64, neg, mul, div, fits}
 use contract.Lifetimes.{Lfts}
 use denote.Triple.Clauses.{AtExit}
 use borrow.Fn.Kinds.{Dens, endedOf, resT}
-use Rattle.common.specs.Outcome.{Outcome, value, finite}
+use Rattle.common.specs.Outcome.{value, finite}
 use Rattle.common.specs.Answer.{paper}
 use Rattle.sizes.specs.Lost.{isZero}
 use Rattle.rules.specs.Power.{one, odd, powerRule}

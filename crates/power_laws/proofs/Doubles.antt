@@ -1,25 +1,24 @@
 -- The doubling law on f64s: twice a number is exact where it is finite, and a power times 2^n is one f64. In order: 2^k times a number, twice a number, the
 -- law. Assumes nothing.
 use mathlib.Core.Path.{_≡_, refl, sym, ap, _∙_, subst}
-use mathlib.Core.Bool.{Bool, true, false, not, _&&_}
+use mathlib.Core.Bool.{Bool, true, false}
 use mathlib.Core.List.{List, [], _∷_}
-use Prim.Native.Nat.{ℕ, zero, suc, _+_, _-_, _*_, _%_, _^_, _≤_, _<_}
-use native.Mathlib.Nat.{le-trans, le-of-eq, lt-of-lt-of-le, lt-of-le-of-lt, lt-of-not-le, not-le-of-lt, mul-one, one-mul, zero-mul, mul-pos, mul-comm, mul-assoc, mul-right-comm, mul-left-comm, mul-le-mul-right, mul-lt-mul-of-pos-right, le-of-mul-le-mul-right, pow-suc}
-use native.Mathlib.Omega.{arith}
-use lib.Dec.{T, eqb, ltb, leb, ltb→lt, leb→le}
-use lib.IntN.{ℤ, pos, negsuc}
-use lib.Pow.{pow-add, pow-pos, pow-lt}
-use lib.Ieee.{Float, nan, inf, fin, binary64, up, down, size, round, mul, le, lt, eq, fits, unlike}
-use lib.Ieee.Fits.{and-l, and-r, down-pos, round-fits, mul-fits}
+use Prim.Native.Nat.{ℕ, suc, _*_, _^_, _≤_, _<_}
+use native.Mathlib.Nat.{le-trans, le-of-eq, mul-one, one-mul, mul-pos, mul-comm, mul-assoc, mul-right-comm, mul-le-mul-right, le-of-mul-le-mul-right, pow-suc}
+use lib.Dec.{T, ltb}
+use lib.IntN.{ℤ}
+use lib.Pow.{pow-pos}
+use lib.Ieee.{Float, nan, inf, fin, binary64, up, down, round, mul, le, lt, eq, fits, unlike}
+use lib.Ieee.Fits.{down-pos, mul-fits}
 use lib.Ieee.Exact.{HasValue, round-exact}
 use lib.Ieee.Order.{round-mono}
 use lib.Ieee.Scale.{round-same}
 use borrow.Author.Tests.{ltb-true, ltb-false}
-use Rattle.common.specs.Outcome.{value, finite}
+use Rattle.common.specs.Outcome.{finite}
 use Rattle.common.proofs.Laws.{never}
 use Rattle.sizes.proofs.Band.{round-size}
-use Rattle.rules.specs.Power.{one, bits, powerRule}
-use Rattle.rules.specs.RawPower.{times, overBits}
+use Rattle.rules.specs.Power.{one, bits}
+use Rattle.rules.specs.RawPower.{overBits}
 use Rattle.power_laws.specs.Laws.{Scaled, twoTo, inRange, normal, products, Doubled}
 use Rattle.power_laws.proofs.Again.{Parts, parts, again}
 use Rattle.power_laws.proofs.Doubling.{weaker, kept, range-is-normal, normal-is-kept, accepted, ends, scaled-raw}

@@ -1,20 +1,19 @@
 -- The bits of n, taken at a base and at twice the base: where no product leaves the normal range the result is exactly 2^n times as much. In order: tests of
 -- products, the bits, that a power whose products are all normal is accepted, and the numbers of both powers. Assumes nothing.
 use mathlib.Core.Path.{_≡_, refl, sym, ap, _∙_, subst}
-use mathlib.Core.Bool.{Bool, true, false, not, _&&_, cond}
+use mathlib.Core.Bool.{Bool, true, false, not, _&&_}
 use mathlib.Core.List.{List, [], _∷_}
 use Prim.Native.Nat.{ℕ, zero, suc, _+_, _*_, _/_, _%_, _^_, _≤_, _<_}
 use native.Mathlib.Nat.{pow-suc}
 use native.Mathlib.Omega.{arith}
-use lib.Dec.{eqb, leb}
-use lib.IntN.{ℤ, pos, natAbs}
-use lib.Ieee.{Float, nan, inf, fin, binary64, up, down, size, mul}
+use lib.IntN.{pos}
+use lib.Ieee.{Float, nan, inf, fin, binary64, size, mul}
 use lib.Ieee.Digits.{size-lt}
 use borrow.Author.Tests.{eqb-true, eqb-false, le-leb}
-use Rattle.common.specs.Outcome.{Outcome, value, refused, finite, check, then}
+use Rattle.common.specs.Outcome.{value, finite}
 use Rattle.common.proofs.Laws.{never, check-kept}
-use Rattle.sizes.specs.Lost.{subnormal, isZero}
-use Rattle.rules.specs.Power.{one, odd, lowest, bits, checkPower, byBits, bySign, powerRule}
+use Rattle.sizes.specs.Lost.{subnormal}
+use Rattle.rules.specs.Power.{one, odd, lowest, bits, checkPower, byBits, powerRule}
 use Rattle.rules.specs.RawPower.{times, overBits}
 use Rattle.power_laws.specs.Laws.{Scaled, inRange, normal, ofBit, everyProduct, products}
 use Rattle.power_laws.proofs.Scales.{left, right, mul-scaled, range-finite, range-normal}

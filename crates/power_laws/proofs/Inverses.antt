@@ -4,11 +4,11 @@ use mathlib.Core.Bool.{Bool, true, false, not, _&&_, cond}
 use Prim.Native.Nat.{ℕ, zero, suc}
 use native.Mathlib.Omega.{arith}
 use lib.Dec.{leb}
-use lib.IntN.{ℤ, pos, negsuc, negℤ, natAbs}
+use lib.IntN.{pos, negsuc, negℤ}
 use lib.Ieee.{Float, nan, inf, fin, binary64, round, div}
 use Rattle.common.specs.Outcome.{Outcome, value, refused, finite, check, then}
 use Rattle.sizes.specs.Lost.{subnormal, isZero}
-use Rattle.rules.specs.Power.{one, bits, checkPower, byBits, bySign, powerRule}
+use Rattle.rules.specs.Power.{one, bits, byBits, bySign, powerRule}
 use Rattle.power_laws.specs.Laws.{inverted}
 
 by-parts : (a : Float) (k : ℕ) (p q : Bool) (o : Outcome Float)

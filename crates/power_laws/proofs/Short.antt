@@ -2,7 +2,7 @@
 -- not 0
 -- these say the same: the power is accepted; every product on the way, rounded, is normal; every product was in the normal range before it was rounded.
 -- Assumes nothing.
-use mathlib.Core.Path.{_≡_, refl}
+use mathlib.Core.Path.{_≡_}
 use mathlib.Core.Bool.{true, false}
 use Prim.Native.Nat.{ℕ, _≤_}
 use lib.Dec.{T}

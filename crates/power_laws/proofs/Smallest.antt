@@ -8,7 +8,7 @@ use mathlib.Core.Logic.{_⊎_, inl, inr}
 use mathlib.Core.Bool.{Bool, true, false, not, _&&_}
 use mathlib.Core.List.{List, [], _∷_}
 use Prim.Native.Nat.{ℕ, zero, suc, _+_, _-_, _*_, _^_, _≤_, _<_}
-use native.Mathlib.Nat.{pow-suc, le-of-suc-le-suc, le-trans, le-of-eq, le-of-lt, lt-of-le-of-lt, lt-of-lt-of-le, lt-of-not-le, not-le-of-lt, mul-one, one-mul, mul-pos, mul-comm, mul-assoc, mul-right-comm, mul-mul-mul-comm, mul-le-mul, mul-le-mul-right, mul-le-mul-left, le-of-mul-le-mul-right, mul-lt-mul-of-pos-right, eq-of-mul-eq-mul-right}
+use native.Mathlib.Nat.{pow-suc, le-of-suc-le-suc, le-trans, le-of-eq, le-of-lt, lt-of-not-le, not-le-of-lt, mul-one, one-mul, mul-pos, mul-comm, mul-assoc, mul-right-comm, mul-mul-mul-comm, mul-le-mul, mul-le-mul-right, eq-of-mul-eq-mul-right}
 use native.Mathlib.Omega.{arith}
 use lib.Dec.{T, eqb, leb}
 use lib.IntN.{ℤ, pos, negsuc}
@@ -17,20 +17,20 @@ use lib.Pow.{pow-add, pow-pos, pow-mono}
 use lib.Ieee.{Float, nan, inf, fin, binary64, up, down, size, round, mul, le, lt, eq, fits, unlike}
 use lib.Ieee.Fits.{down-pos}
 use lib.Ieee.Order.{round-mono}
-use lib.Ieee.Positive.{num, den, den-pos}
+use lib.Ieee.Positive.{num, den}
 use borrow.Author.Tests.{le-leb, leb-true, leb-false, ltb-false, eqb-true}
 use Rattle.common.specs.Outcome.{value, finite}
 use Rattle.common.proofs.Laws.{never}
 use Rattle.sizes.specs.Lost.{subnormal, isZero}
 use Rattle.sizes.proofs.Band.{round-size, of-finite}
 use Rattle.rules.specs.Power.{one, lowest, bits, powerRule}
-use Rattle.rules.specs.RawPower.{times, overBits}
+use Rattle.rules.specs.RawPower.{overBits}
 use Rattle.rules.proofs.Rounds.{round-shape, le-sizes, rescale}
 use Rattle.rules.proofs.Fields as fields
-use Rattle.power_laws.specs.Laws.{twoTo, inRange, normal, ofBit, everyProduct, products, Doubled, atMostLeast}
+use Rattle.power_laws.specs.Laws.{inRange, normal, everyProduct, products, atMostLeast}
 use Rattle.power_laws.proofs.Again.{other-sign, parts, again}
 use Rattle.power_laws.proofs.Scales.{left, right}
-use Rattle.power_laws.proofs.Doubling.{kept, weaker, normal-is-kept, accepted}
+use Rattle.power_laws.proofs.Doubling.{kept, weaker, normal-is-kept}
 use Rattle.power_laws.proofs.Products.{Under}
 use Rattle.power_laws.proofs.Accepted as accept
 use Rattle.power_laws.proofs.Accepted.{Accepted, accepted-normal}

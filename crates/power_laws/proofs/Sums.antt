@@ -1,11 +1,11 @@
 -- Why the sums do not care about the sign of a base at even exponents: a sum over any table whose exponents of a base are all even, and each of its
 -- derivatives where what is left of them is, has the same outcome at the base with its sign turned. Assumes nothing.
 use mathlib.Core.Path.{_≡_, refl, sym, ap, _∙_}
-use mathlib.Core.Bool.{Bool, true, false, not, _&&_}
+use mathlib.Core.Bool.{Bool, true, false, not}
 use mathlib.Core.List.{List, [], _∷_}
 use lib.IntN.{ℤ, natAbs}
 use lib.Ieee.{Float, nan, inf, fin, binary64, neg, add, mul}
-use Rattle.common.specs.Outcome.{Outcome, value, refused, finite, check, then, inside, zeroF}
+use Rattle.common.specs.Outcome.{Outcome, value, refused, check, then, inside, zeroF}
 use Rattle.common.specs.Sum.{total, every}
 use Rattle.common.proofs.Laws.{never}
 use Rattle.rules.specs.Power.{odd, powerRule}
