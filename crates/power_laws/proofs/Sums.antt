@@ -1,8 +1,10 @@
 -- Why the sums do not care about the sign of a base at even exponents: a sum over any table whose exponents of a base are all even, and each of its
 -- derivatives where what is left of them is, has the same outcome at the base with its sign turned. Assumes nothing.
 use mathlib.Core.Path.{_≡_, refl, sym, ap, _∙_}
-use mathlib.Core.Bool.{Bool, true, false, not}
+use mathlib.Core.Bool.{Bool, true, false, not, cond}
 use mathlib.Core.List.{List, [], _∷_}
+use lib.Dec.{eqb}
+use lib.ListN.{length}
 use lib.IntN.{ℤ, natAbs}
 use lib.Ieee.{Float, nan, inf, fin, binary64, neg, add, mul}
 use Rattle.common.specs.Outcome.{Outcome, value, refused, check, then, inside, zeroF}
@@ -10,7 +12,8 @@ use Rattle.common.specs.Sum.{total, every}
 use Rattle.common.proofs.Laws.{never}
 use Rattle.rules.specs.Power.{odd, powerRule}
 use Rattle.algo.specs.declared.Order.{Order}
-use Rattle.algo.specs.Table.{Row, row, raised, left, fallen, factor, differentiated, sumRule}
+use Rattle.algo.specs.Table.{Row, row, rowsOf, raised, left, fallen, factor, differentiated, sumRule}
+use Rattle.polynomial.specs.Columns.{tableRule}
 use Rattle.power_laws.specs.Laws.{turned}
 use Rattle.power_laws.specs.Even.{evenFirst, evenSecond, allEvenFirst, allEvenSecond}
 use Rattle.power_laws.proofs.Signs.{sign-law}
@@ -68,3 +71,19 @@ module _ (a b : Order) (rows : List Row) where
     where
       by-row : (x y : Float) (r : Row) → evenSecond b r ≡ true → differentiated a b x (neg y) r ≡ differentiated a b x y r
       by-row x y (row i j n) e = after (factor a x i n) _ _ (λ z. even-factor b y j z e)
+
+-- ---- and so a table that is lent by its columns
+
+module _ (a b : Order) (is js : List ℤ) (ns : List Float) where
+  lent : Outcome Float → Outcome Float
+  lent o = cond (eqb (length is) (length ns)) (cond (eqb (length js) (length ns)) o (refused 7)) (refused 7)
+
+  pub even-first-column : (vi vj : Float) → allEvenFirst a (rowsOf is js ns) ≡ true
+      → tableRule (differentiated a b) (neg vi) vj is js ns ≡ tableRule (differentiated a b) vi vj is js ns
+  unfolding tableRule lent
+  even-first-column vi vj h = ap lent (even-first a b (rowsOf is js ns) vi vj h)
+
+  pub even-second-column : (vi vj : Float) → allEvenSecond b (rowsOf is js ns) ≡ true
+      → tableRule (differentiated a b) vi (neg vj) is js ns ≡ tableRule (differentiated a b) vi vj is js ns
+  unfolding tableRule lent
+  even-second-column vi vj h = ap lent (even-second a b (rowsOf is js ns) vi vj h)
