@@ -1,5 +1,5 @@
--- Where an accepted power is above 2^-1022 in size, no product on the way to it is at most that, and so none was below it before it was rounded.
--- Assumes nothing.
+-- Where an accepted power is above 2^-1022 in size, no product on the way to it is at most that, and so none was below it before it was rounded. Assumes
+-- nothing.
 use mathlib.Core.Path.{_≡_, refl, sym, ap, _∙_, subst}
 use mathlib.Core.Bool.{Bool, true, false, not, _&&_, cond}
 use Prim.Native.Nat.{ℕ, zero, suc, _*_, _^_, _≤_, _<_}
@@ -17,7 +17,7 @@ use Rattle.common.proofs.Laws.{never}
 use Rattle.sizes.specs.Lost.{isZero}
 use Rattle.sizes.proofs.Looks.{least}
 use Rattle.rules.specs.Power.{one, bits, powerRule}
-use Rattle.power_laws.specs.Laws.{Scaled, twoTo, inRange, products, atMostLeast}
+use Rattle.power_laws.specs.Laws.{Scaled, twoTo, inRange, products}
 use Rattle.power_laws.proofs.Scales.{left, right}
 use Rattle.power_laws.proofs.Doubling.{weaker}
 use Rattle.power_laws.proofs.Doubles.{twice}
@@ -25,6 +25,11 @@ use Rattle.power_laws.proofs.Products.{Under, rounded-under, good-produ
 use Rattle.power_laws.proofs.Accepted.{accepted-normal, under-at-most, grows}
 
 -- ---- at most 2^-1022 in size
+
+abbrev pub atMostLeast : Float → Bool
+atMostLeast nan = false
+atMostLeast (inf s) = false
+atMostLeast (fin s m e) = leb (m * up e * 2 ^ 1022) (down e)
 
 tiny-is : (x : Float) → finite x ≡ true → atMostLeast x ≡ leb (num x * 2 ^ 1022) (den x)
 tiny-is nan f = never (sym f)

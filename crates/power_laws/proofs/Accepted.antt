@@ -1,5 +1,5 @@
--- What an accepted power says of the products on the way to it: all of them are normal. So a look at each square too would change no power, and the doubling
--- law needs no more than that both powers are accepted, where the power of the base is not 2^-1022 itself in size. Assumes nothing.
+-- What an accepted power says of the products on the way to it: all of them are normal. So a look at each square too would change no power. Assumes
+-- nothing.
 use mathlib.Core.Path.{_≡_, refl, sym, ap, _∙_}
 use mathlib.Core.Bool.{Bool, true, false, not, _&&_, cond}
 use mathlib.Core.List.{List, [], _∷_}

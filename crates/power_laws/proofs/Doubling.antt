@@ -1,5 +1,5 @@
--- The bits of n, taken at a base and at twice the base: where no product leaves the normal range the result is exactly 2^n times as much. In order: tests of
--- products, the bits, that a power whose products are all normal is accepted, and the numbers of both powers. Assumes nothing.
+-- The bits of n, taken at a base and at twice the base: where no product leaves the normal range the result is exactly 2^n times as much. In order: tests
+-- of products, the bits, that a power whose products are all normal is accepted, and the numbers of both powers. Assumes nothing.
 use mathlib.Core.Path.{_≡_, refl, sym, ap, _∙_, subst}
 use mathlib.Core.Bool.{Bool, true, false, not, _&&_}
 use mathlib.Core.List.{List, [], _∷_}

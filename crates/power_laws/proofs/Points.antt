@@ -1,5 +1,5 @@
--- Points of the laws, worked out by antt from the definitions: that their premises are met, and what breaks where one is left out. The numbers and bits of the
--- answers were worked by tools/rules_rows.py from the rule's words, with floats that are not antt's. Assumes nothing.
+-- Points of the laws, worked out by antt from the definitions: that their premises are met, and what breaks where one is left out. The numbers and bits of
+-- the answers were worked by tools/rules_rows.py from the rule's words, with floats that are not antt's. Assumes nothing.
 use mathlib.Core.Path.{_≡_, refl}
 use mathlib.Core.Bool.{Bool, true, false}
 use mathlib.Core.List.{List, [], _∷_, map}
@@ -11,7 +11,7 @@ use Rattle.common.specs.Sum.{total, every}
 use Rattle.rules.specs.Power.{powerRule}
 use Rattle.algo.specs.declared.Order.the-variants.{Zero}
 use Rattle.algo.specs.Table.{Row, row, term, sumRule}
-use Rattle.power_laws.specs.Laws.{twoTo, inRange, products, everyProduct}
+use Rattle.power_laws.specs.Laws.{twoTo, inRange, normal, products, everyProduct}
 use Rattle.power_laws.specs.Even.{allEvenFirst, allEvenSecond}
 
 -- the paper's number, and the bits of the value
@@ -72,6 +72,18 @@ pub needed : (doubled (part 511) 2 ≡ ((false, true), (5, 0) ∷ (0, 0x10000000
     × (doubled (twoTo 0) 65 ≡ ((true, true), (3, 0) ∷ (3, 0) ∷ []))
 unfolding powerRule everyProduct toBits round mul div
 needed = (refl, refl, refl, refl)
+
+-- Why products are taken before they are rounded: one of two f64s that is below 2^-1022, rounds up to it and so counts as normal; with its first factor
+-- doubled it is not twice as much, which would be 0x20000000000000. No power up to 64 comes by such a product (proofs/Smallest).
+abbrev factor : Float
+factor = fin false 0x1fffffffffffff (negsuc 563)
+
+pub rounded-up : (normal factor (part 510) ≡ true)
+    × (inRange factor (part 510) ≡ false)
+    × (toBits binary64 (mul binary64 factor (part 510)) ≡ 0x10000000000000)
+    × (toBits binary64 (mul binary64 (mul binary64 (twoTo 1) factor) (part 510)) ≡ 0x1fffffffffffff)
+unfolding toBits round mul
+rounded-up = (refl, refl, refl, refl)
 
 -- ---- sums: a table with even exponents of its first base only; at the turned first base the sum is the same, at the turned second one it is not
 abbrev rows : List Row

@@ -1,6 +1,6 @@
--- Where a power is not small, no product on the way to it is. With a base of size 1 at most every product is at most its factors in size, and the last r takes
--- all of them up; with a base of size 1 at least every product is, or is lost, and then so is the power. In order: a product beside its factors, the bits with
--- any such notion of a bad product, the two cases, and the law. Assumes nothing.
+-- Where a power is not small, no product on the way to it is. With a base of size 1 at most every product is at most its factors in size, and the last r
+-- takes all of them up; with a base of size 1 at least every product is, or is lost, and then so is the power. In order: a product beside its factors, the
+-- bits with any such notion of a bad product, the two cases, and the law. Assumes nothing.
 use mathlib.Core.Path.{_≡_, refl, sym, ap, _∙_, subst}
 use mathlib.Core.Logic.{_⊎_, inl, inr}
 use mathlib.Core.Bool.{Bool, true, false, not, _&&_}

@@ -1,5 +1,5 @@
--- A product in the normal range is multiplied exactly by a power of two when its factors are. In order: fractions, a rounded fraction, the product, a number
--- that is rounded again. Assumes nothing.
+-- A product in the normal range is multiplied exactly by a power of two when its factors are. In order: fractions, a rounded fraction, the product, a
+-- number that is rounded again. Assumes nothing.
 use mathlib.Core.Path.{_≡_, refl, sym, ap, _∙_, subst}
 use mathlib.Core.Bool.{Bool, true, false, _&&_}
 use Prim.Native.Nat.{ℕ, _+_, _*_, _^_, _≤_, _<_}

@@ -1,7 +1,6 @@
 -- The short form of the doubling law: two accepted powers, of a base that is not 0 and of its double, are enough. For an n from 0 to 64 and a base that is
--- not 0
--- these say the same: the power is accepted; every product on the way, rounded, is normal; every product was in the normal range before it was rounded.
--- Assumes nothing.
+-- not 0 these say the same: the power is accepted; every product on the way, rounded, is normal; every product was in the normal range before it was
+-- rounded. Assumes nothing.
 use mathlib.Core.Path.{_≡_}
 use mathlib.Core.Bool.{true, false}
 use Prim.Native.Nat.{ℕ, _≤_}

@@ -1,8 +1,7 @@
 -- The powers that are 2^-1022 itself in size, the smallest that is accepted. There a product could have been below 2^-1022 and rounded up to it, and twice
--- the base
--- would round otherwise. None is: powers grow with the size of the base, so that for each n only the bases between two neighbours can have such a power;
--- for 57 of the n from 2 to 64 there is none between them, and for 6 one, whose products are worked out here. So the doubling law needs no more than two
--- accepted powers. Assumes nothing.
+-- the base would round otherwise. None is: powers grow with the size of the base, so that for each n only the bases between two neighbours can have such a
+-- power; for 57 of the n from 2 to 64 there is none between them, and for 6 one, whose products are worked out here. So the doubling law needs no more than
+-- two accepted powers. Assumes nothing.
 use mathlib.Core.Path.{_≡_, refl, sym, ap, ap₂, _∙_, subst}
 use mathlib.Core.Logic.{_⊎_, inl, inr}
 use mathlib.Core.Bool.{Bool, true, false, not, _&&_}
@@ -27,7 +26,7 @@ use Rattle.rules.specs.Power.{one, lowest, bits, powerRule}
 use Rattle.rules.specs.RawPower.{overBits}
 use Rattle.rules.proofs.Rounds.{round-shape, le-sizes, rescale}
 use Rattle.rules.proofs.Fields as fields
-use Rattle.power_laws.specs.Laws.{inRange, normal, everyProduct, products, atMostLeast}
+use Rattle.power_laws.specs.Laws.{inRange, normal, everyProduct, products}
 use Rattle.power_laws.proofs.Again.{other-sign, parts, again}
 use Rattle.power_laws.proofs.Scales.{left, right}
 use Rattle.power_laws.proofs.Doubling.{kept, weaker, normal-is-kept}
@@ -35,6 +34,7 @@ use Rattle.power_laws.proofs.Products.{Under}
 use Rattle.power_laws.proofs.Accepted as accept
 use Rattle.power_laws.proofs.Accepted.{Accepted, accepted-normal}
 use Rattle.power_laws.proofs.Above as above-least
+use Rattle.power_laws.proofs.Above.{atMostLeast}
 
 -- ---- powers grow with the size of the base
 

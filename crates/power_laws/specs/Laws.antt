@@ -89,12 +89,6 @@ pub record Doubled (a b : Float) (n : ℕ) : Type 0 where
   pub exactly : Scaled n of-base of-double
   pub as-f64 : of-double ≡ mul binary64 of-base (twoTo n)
 
--- 2^-1022, the smallest normal f64, at most in size
-abbrev pub atMostLeast : Float → Bool
-atMostLeast nan = false
-atMostLeast (inf s) = false
-atMostLeast (fin s m e) = leb (m * up e * 2 ^ 1022) (down e)
-
 -- ---- a look at each square
 
 -- as `byBits` of the rule, where each x*x is looked at too
