@@ -53,24 +53,28 @@ checked nan f g h = refl
 checked (inf s) f g h = refl
 checked (fin s m e) f g h = h (fin s m e)
 
-module _ (a b : Order) (rows : List Row) where
-  pub even-first : (vi vj : Float) → allEvenFirst a rows ≡ true → sumRule (differentiated a b) (neg vi) vj rows ≡ sumRule (differentiated a b) vi vj rows
-  unfolding sumRule
-  even-first vi vj h =
-      checked vi _ _ (λ x. after (check vj) _ _ (λ y. total-same (evenFirst a) (differentiated a b (neg x) y) (differentiated a b x y)
-      (by-row x y) zeroF rows h))
-    where
-      by-row : (x y : Float) (r : Row) → evenFirst a r ≡ true → differentiated a b (neg x) y r ≡ differentiated a b x y r
-      by-row x y (row i j n) e = ap (λ (o : Outcome Float). then o (factor b y j)) (even-factor a x i n e)
+module _ (a b : Order) where
+  -- a row whose exponent of a base is even has the same term, whatever the other rows are
+  pub even-first-term : (x y : Float) (r : Row) → evenFirst a r ≡ true → differentiated a b (neg x) y r ≡ differentiated a b x y r
+  even-first-term x y (row i j n) e = ap (λ (o : Outcome Float). then o (factor b y j)) (even-factor a x i n e)
 
-  pub even-second : (vi vj : Float) → allEvenSecond b rows ≡ true → sumRule (differentiated a b) vi (neg vj) rows ≡ sumRule (differentiated a b) vi vj rows
+  pub even-second-term : (x y : Float) (r : Row) → evenSecond b r ≡ true → differentiated a b x (neg y) r ≡ differentiated a b x y r
+  even-second-term x y (row i j n) e = after (factor a x i n) _ _ (λ z. even-factor b y j z e)
+
+  -- and so a table whose rows are all such has the same sum
+  pub even-first : (rows : List Row) (vi vj : Float) → allEvenFirst a rows ≡ true
+      → sumRule (differentiated a b) (neg vi) vj rows ≡ sumRule (differentiated a b) vi vj rows
   unfolding sumRule
-  even-second vi vj h =
-      after (check vi) _ _ (λ x. checked vj _ _ (λ y. total-same (evenSecond b) (differentiated a b x (neg y)) (differentiated a b x y)
-      (by-row x y) zeroF rows h))
-    where
-      by-row : (x y : Float) (r : Row) → evenSecond b r ≡ true → differentiated a b x (neg y) r ≡ differentiated a b x y r
-      by-row x y (row i j n) e = after (factor a x i n) _ _ (λ z. even-factor b y j z e)
+  even-first rows vi vj h =
+      checked vi _ _
+      (λ x. after (check vj) _ _ (λ y. total-same (evenFirst a) (differentiated a b (neg x) y) (differentiated a b x y) (even-first-term x y) zeroF rows h))
+
+  pub even-second : (rows : List Row) (vi vj : Float) → allEvenSecond b rows ≡ true
+      → sumRule (differentiated a b) vi (neg vj) rows ≡ sumRule (differentiated a b) vi vj rows
+  unfolding sumRule
+  even-second rows vi vj h =
+      after (check vi) _ _
+      (λ x. checked vj _ _ (λ y. total-same (evenSecond b) (differentiated a b x (neg y)) (differentiated a b x y) (even-second-term x y) zeroF rows h))
 
 -- ---- and so a table that is lent by its columns
 
