@@ -5,21 +5,25 @@ use mathlib.Core.List.{List, [], _∷_}
 use Prim.Native.Nat.{ℕ, zero, suc, _*_, _/_, _^_, _≤_, _<_}
 use native.Mathlib.Nat.{mul-pos}
 use native.Mathlib.Omega.{arith}
-use lib.Dec.{T, eqb}
-use lib.IntN.{ℤ, pos}
+use lib.Dec.{T}
+use lib.IntN.{pos}
 use lib.Pow.{pow-pos}
 use lib.Ieee.{Float, nan, inf, fin, binary64, up, down, size, round, mul, fits, unlike}
 use lib.Ieee.Digits.{size-lt, size-reaches}
 use lib.Ieee.Exact.{HasValue, round-exact}
-use lib.Ieee.Fits.{up-pos, down-pos}
-use borrow.Author.Tests.{eqb-true, eq-eqb}
-use Rattle.common.specs.Outcome.{value, finite}
-use Rattle.common.proofs.Laws.{never}
+use lib.Ieee.Fits.{up-pos, down-pos, mul-fits}
+use borrow.Author.Tests.{eqb-true, eq-eqb, le-leb}
+use Rattle.common.specs.Outcome.{value, finite, check}
+use Rattle.common.proofs.Laws.{never, check-kept}
 use Rattle.sizes.specs.Lost.{isZero}
-use Rattle.rules.specs.Power.{one, odd, lowest, bits}
-use Rattle.rules.specs.RawPower.{overBits}
+use Rattle.rules.specs.Power.{one, odd, lowest, bits, powerRule}
+use Rattle.rules.specs.RawPower.{overBits, rawPower}
+use Rattle.rules.proofs.Powers.{by-bits}
+use Rattle.rules.proofs.Usual.{power-zero}
 use Rattle.rules.proofs.Fields as fields
-use Rattle.power_laws.specs.Laws.{Scaled, twoTo}
+use Rattle.power_laws.specs.Laws.{Scaled, twoTo, Doubled}
+use Rattle.power_laws.proofs.Doubling.{ends}
+use Rattle.power_laws.proofs.Doubles.{as-product, twice, fits-bits, one-fits}
 use Rattle.power_laws.proofs.Products.{highest, top}
 
 -- ---- a product with 0
@@ -115,7 +119,8 @@ twice-zero (fin s m e) nan f g h u = absurd u
 twice-zero (fin s m e) (inf t) f g h u = absurd u
 twice-zero (fin s m e) (fin t n d) f g h u =
     let z = eqb-true m 0 h in
-    let y : n ≡ 0 = no-size n (up d) (up-pos d) (no-size (n * up d) (down e) (down-pos e) (u .1 ∙ ap (λ (k : ℕ). k * up e * 2 ^ 1 * down d) z ∙ gone (up e) (down d))) in
+    let y : n ≡ 0 = no-size n (up d) (up-pos d) (no-size (n * up d) (down e) (down-pos e)
+    (u .1 ∙ ap (λ (k : ℕ). k * up e * 2 ^ 1 * down d) z ∙ gone (up e) (down d))) in
     fields.same (fin t n d) (fin s m e) s 0 g f (u .0, level n (up d) (down d) y) (refl, level m (up e) (down e) z)
   where
     gone : (u d : ℕ) → 0 * u * 2 ^ 1 * d ≡ 0
@@ -129,3 +134,28 @@ twice-zero (fin s m e) (fin t n d) f g h u =
 
         flat : (u l : ℕ) → 0 * u * l ≡ 0
         flat u l = omega arith
+
+-- ---- the law: of 0 both are always accepted
+
+accepted-zero : (a : Float) (n : ℕ) → isZero a ≡ true → n ≤ 64 → powerRule a (pos n) ≡ value (overBits (λ r. r) one a (bits n))
+accepted-zero a n h l =
+    let x = overBits (λ r. r) one a (bits n) in
+    let raw : rawPower a (pos n) ≡ x = unfold rawPower in sym (by-bits 31 one a n (omega arith)) in
+    power-zero a (pos n) h (le-leb n 64 l) ∙ ap check raw ∙ check-kept x (ends n x x (zero-power a n h) .0)
+
+pub zero-doubled : (a : Float) (n : ℕ) → T (fits binary64 a) → isZero a ≡ true → n ≤ 64 → finite (mul binary64 (twoTo 1) a) ≡ true
+    → Doubled a (mul binary64 (twoTo 1) a) n
+zero-doubled a n f h l g =
+    let x = overBits (λ r. r) one a (bits n) in
+    let e = zero-power a n h in
+    let p = accepted-zero a n h l in
+    subst (λ (b : Float). Doubled a b n) (sym (twice-zero a (mul binary64 (twoTo 1) a) f (mul-fits binary64 (twoTo 1) a) h (twice a f g)))
+    (record {
+      of-base = x;
+      of-double = x;
+      base-accepted = p;
+      double-accepted = p;
+      exactly = e;
+      as-f64 = as-product n x x
+          (fits-bits one a (bits n) one-fits) e;
+    })
