@@ -1,7 +1,7 @@
 -- The laws on the contract of `power` itself: r is any answer that it admits at a and m, and s any that it admits at b and n. Assumes nothing.
 use mathlib.Core.Path.{_≡_, sym, ap, ap₂, _∙_, subst}
 use Prim.Native.Nat.{ℕ, _≤_}
-use mathlib.Core.Bool.{Bool, true, false}
+use mathlib.Core.Bool.{Bool, true}
 use lib.Dec.{T}
 use lib.IntN.{pos, negℤ, natAbs}
 use lib.Ieee.{Float, binary64, neg, mul, div, fits}
@@ -10,7 +10,6 @@ use denote.Triple.Clauses.{AtExit}
 use borrow.Fn.Kinds.{Dens, endedOf, resT}
 use Rattle.common.specs.Outcome.{value, finite}
 use Rattle.common.specs.Answer.{paper}
-use Rattle.sizes.specs.Lost.{isZero}
 use Rattle.rules.specs.Power.{one, odd, powerRule}
 use Rattle.rules.proofs.power.Kinds as kinds
 use Rattle.rules.proofs.power.Reads as power
@@ -49,13 +48,13 @@ module _ (κs ls : Lfts 0) (a : Dens κs kinds.ps) (b : Dens ls kinds.ps)
       (doubles.doubling (a .0) n f l (sym (ap finite u) ∙ g) h (subst (λ (y : Float). products inRange y n ≡ true) u k)) in
       (z, p ∙ ap (powerRule (a .0)) v ∙ z .base-accepted, q ∙ ap (powerRule (b .0)) w ∙ z .double-accepted)
 
-  -- the short form: a is not 0, and both are accepted
-  pub doubling-accepted : (n : ℕ) → n ≤ 64 → a .1 .0 ≡ pos n → b .1 .0 ≡ pos n → T (fits binary64 (a .0)) → isZero (a .0) ≡ false
+  -- the short form: both are accepted
+  pub doubling-accepted : (n : ℕ) → n ≤ 64 → a .1 .0 ≡ pos n → b .1 .0 ≡ pos n → T (fits binary64 (a .0))
       → b .0 ≡ mul binary64 (twoTo 1) (a .0) → finite (b .0) ≡ true → (x y : Float) → paper r ≡ value x → paper s ≡ value y
       → (z : Doubled (a .0) (b .0) n) × (x ≡ z .of-base) × (y ≡ z .of-double)
-  doubling-accepted n l v w f h u g x y i j =
+  doubling-accepted n l v w f u g x y i j =
       let p' = sym (p ∙ ap (powerRule (a .0)) v) ∙ i in
       let q' = sym (q ∙ ap (powerRule (b .0)) w) ∙ j in
       let z = subst (λ (y : Float). Doubled (a .0) y n) (sym u)
-      (short.doubling-accepted (a .0) n f h l (sym (ap finite u) ∙ g) x y p' (sym (ap (λ (c : Float). powerRule c (pos n)) u) ∙ q')) in
+      (short.doubling-accepted (a .0) n f l (sym (ap finite u) ∙ g) x y p' (sym (ap (λ (c : Float). powerRule c (pos n)) u) ∙ q')) in
       (z, value-of x (z .of-base) (sym p' ∙ z .base-accepted), value-of y (z .of-double) (sym q' ∙ z .double-accepted))

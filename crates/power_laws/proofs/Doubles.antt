@@ -108,13 +108,13 @@ twice (fin s m e) h f = go (ltb (m * 2 ^ suc j) (2 ^ 2098)) refl
 
 -- ---- the law on f64s
 
-fits-bits : (r x : Float) (bs : List Bool) → T (fits binary64 r) → T (fits binary64 (overBits (λ r. r) r x bs))
+pub fits-bits : (r x : Float) (bs : List Bool) → T (fits binary64 r) → T (fits binary64 (overBits (λ r. r) r x bs))
 unfolding overBits
 fits-bits r x [] h = h
 fits-bits r x (true ∷ bs) h = fits-bits (mul binary64 r x) (mul binary64 x x) bs (mul-fits binary64 r x)
 fits-bits r x (false ∷ bs) h = fits-bits r (mul binary64 x x) bs h
 
-one-fits : T (fits binary64 one)
+pub one-fits : T (fits binary64 one)
 one-fits = unfold fits in tt
 
 -- for an n from 0 to 64 and a b that is exactly twice a; of the second computation it is enough that its products are normal once they are rounded

@@ -9,6 +9,7 @@ pub mod Products
 pub mod Accepted
 pub mod Above
 pub mod Smallest
+pub mod Zeros
 pub mod Short
 pub mod Sums
 pub mod Contract

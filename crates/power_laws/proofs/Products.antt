@@ -113,11 +113,11 @@ mul-large (fin s m e) (fin t n d) i j f =
 
 -- ---- the bits, the highest of which is set
 
-unfoldable highest : Bool → List Bool → Bool
+unfoldable pub highest : Bool → List Bool → Bool
 highest bit [] = bit
 highest bit (next ∷ higher) = highest next higher
 
-top : (k n : ℕ) → 2 ^ k ≤ n → n < 2 ^ suc k → T (highest (odd n) (lowest k (n / 2)))
+pub top : (k n : ℕ) → 2 ^ k ≤ n → n < 2 ^ suc k → T (highest (odd n) (lowest k (n / 2)))
 unfolding highest lowest
 top zero n l h = subst T (sym (eq-eqb (n % 2) 1 (omega arith))) tt
 top (suc k) n l h =
