@@ -1,0 +1,16 @@
+pub mod Signs
+pub mod Again
+pub mod Inverses
+pub mod Bits
+pub mod Scales
+pub mod Doubling
+pub mod Doubles
+pub mod Products
+pub mod Accepted
+pub mod Above
+pub mod Smallest
+pub mod Zeros
+pub mod Short
+pub mod Sums
+pub mod Contract
+pub mod Points
