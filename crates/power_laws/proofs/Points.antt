@@ -3,7 +3,7 @@
 use mathlib.Core.Path.{_≡_, refl}
 use mathlib.Core.Bool.{Bool, true, false}
 use mathlib.Core.List.{List, [], _∷_, map}
-use Prim.Native.Nat.{ℕ, _^_}
+use Prim.Native.Nat.{ℕ, _+_, _^_}
 use lib.IntN.{ℤ, pos, negsuc}
 use lib.Ieee.{Float, inf, fin, binary64, toBits, round, neg, add, sum, mul, div}
 use Rattle.common.specs.Outcome.{Outcome, numberAndValue, zeroF}
@@ -65,13 +65,15 @@ pub doubles : (doubled (decimal 1_1 1) 7 ≡ ((true, true), (0, 0x3fff2df1fb5a7e
 unfolding powerRule everyProduct toBits round neg mul div
 doubles = (refl, refl, refl, refl)
 
--- and each is needed: the first power's products (2^-512 squared), the second's (2^511 squared), 2*a finite (2^1023 to the 0), an n up to 64
+-- and each is needed: the first power's products (2^-512 squared), the second's (2^511 squared), 2*a finite (2^1023 to the 0), an n up to 64, an f64 for
+-- base (2^53 + 1 squared: twice as much is rounded to 2^54, and 4 times the power would be 0x46b0000000000001)
 pub needed : (doubled (part 511) 2 ≡ ((false, true), (5, 0) ∷ (0, 0x10000000000000) ∷ []))
     × (doubled (twoTo 511) 2 ≡ ((true, false), (0, 0x7fd0000000000000) ∷ (5, 0) ∷ []))
     × (doubled (twoTo 1023) 0 ≡ ((true, true), (0, 0x3ff0000000000000) ∷ (1, 0) ∷ []))
     × (doubled (twoTo 0) 65 ≡ ((true, true), (3, 0) ∷ (3, 0) ∷ []))
+    × (doubled (fin false (2 ^ 53 + 1) (pos 0)) 2 ≡ ((true, true), (0, 0x4690000000000001) ∷ (0, 0x46b0000000000000) ∷ []))
 unfolding powerRule everyProduct toBits round mul div
-needed = (refl, refl, refl, refl)
+needed = (refl, refl, refl, refl, refl)
 
 -- Why products are taken before they are rounded: one of two f64s that is below 2^-1022, rounds up to it and so counts as normal; with its first factor
 -- doubled it is not twice as much, which would be 0x20000000000000. No power up to 64 comes by such a product (proofs/Smallest).
