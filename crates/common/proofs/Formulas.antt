@@ -140,7 +140,7 @@ module _ {o : Outcome Float} {r : Float} where
 module _ {A : Type 0} {f : Outcome Float → A → Outcome Float} {g : Float → A → Float} where
   pub raw_fold : {o : Outcome Float} {r : Float} → ((q : Outcome Float) (s : Float) (k : A) → Raw q s → Raw (f q k) (g s k)) → Raw o r → (ks : List A) → Raw (foldl f o ks) (foldl g r ks)
   raw_fold h p [] = p
-  raw_fold h p (k ∷ ks) = raw_fold h (h _ _ k p) ks
+  raw_fold {o = o} {r = r} h p (k ∷ ks) = raw_fold {o = f o k} {r = g r k} h (h o r k p) ks
 
 -- ---- a number by another name, and its sign turned
 

@@ -1,6 +1,6 @@
 -- To believe: `total`, a sum over the rows of a table, in table order, whatever a row and its term are. Helps proofs only: `raw_total` and `every`.
 -- Assumes nothing: these are definitions.
-use Rattle.std.specs.Prelude.{Bool, true, false, ◌&&◌, List, [], ◌∷◌, Float}
+use Rattle.std.specs.Prelude.{Bool, true, ◌&&◌, List, [], ◌∷◌, Float}
 use Rattle.std.specs.Float.{binary64}
 use Rattle.std.specs.Float.Ieee.{add}
 use Rattle.common.specs.Outcome.{Outcome, value, check, then}

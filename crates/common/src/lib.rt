@@ -1,6 +1,8 @@
 // What every layer shares: the units, the refusals, the answer for one number, the ranges and the constants.
 // What each answer means is in specs/Answer.antt, the ranges in specs/Range.antt, the constants in specs/Constant.antt, the property numbers in
 // specs/Property.antt.
+#![tactic(auto)]
+
 ghost use Rattle.std.specs.Prelude.{◌≡◌, min};
 ghost use Rattle.common.specs.Outcome.{finite, check, or_nan, number_in};
 ghost use Rattle.common.specs.Formula.{size_of, raw_over};
@@ -10,31 +12,31 @@ ghost use Rattle.common.specs.Property.{property_numbers};
 ghost use Rattle.common.specs.Constant.{printed, p_range_from, p_range_to, t_range_from, t_range_to, d_range_from, d_range_to};
 
 // A pressure.
-#[derive(Drop)]
+#[derive(Clone, Copy)]
 pub struct MPa(pub f64);
 
 // A temperature.
-#[derive(Drop)]
+#[derive(Clone, Copy)]
 pub struct Kelvin(pub f64);
 
 // A density.
-#[derive(Drop)]
+#[derive(Clone, Copy)]
 pub struct KgPerM3(pub f64);
 
 // A volume.
-#[derive(Drop)]
+#[derive(Clone, Copy)]
 pub struct M3PerKg(pub f64);
 
 // An enthalpy.
-#[derive(Drop)]
+#[derive(Clone, Copy)]
 pub struct KJPerKg(pub f64);
 
 // An entropy.
-#[derive(Drop)]
+#[derive(Clone, Copy)]
 pub struct KJPerKgK(pub f64);
 
 // Why a call is refused. `number_of` gives the paper's number of each case.
-#[derive(Drop)]
+#[derive(Clone, Copy)]
 pub enum Refusal {
     NotFinite,
     First,
@@ -48,14 +50,14 @@ pub enum Refusal {
 }
 
 // The answer of a call for one number.
-#[derive(Drop)]
+#[derive(Clone, Copy)]
 pub enum Answer {
     Value(f64),
     Refused(Refusal),
 }
 
 // The answer of a test, or of a call whose numbers stand beside it.
-#[derive(Drop)]
+#[derive(Clone, Copy)]
 pub enum Verdict {
     Accepted,
     Refused(Refusal),

@@ -1,12 +1,8 @@
 -- `common::in_d` meets its contract: its literals are the range's decimals. Assumes nothing.
 use lib.Ieee.{of_bits}
 use Rattle.common.specs.Decimal.{decimal, whole, scaled}
-use borrow.Author.Rules.{rules}
-use Rattle.common.proofs.in_d as own
+use Rattle.common.proofs.in_d.Goals as goal
 
-returns : own.Tie.Need-returns
+pub returns : goal.returns
 unfolding of_bits decimal whole scaled
 returns c = c.ranged.ensures
-
-pub in_d_spec : {M : Type 1} → own.Statement.statement M
-in_d_spec = own.Tie.close (own.Tie.spec (λ c κs. search rules) returns)

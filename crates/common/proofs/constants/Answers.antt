@@ -4,11 +4,8 @@ use mathlib.Core.Path.{refl}
 use lib.Ieee.{of_bits}
 use Rattle.common.specs.Constant.{printed}
 use Rattle.common.specs.Decimal.{decimal, whole, scaled}
-use Rattle.common.proofs.constants as own
+use Rattle.common.proofs.constants.Goals as goal
 
-returns : own.Tie.Need-returns
+pub returns : goal.returns
 unfolding of_bits printed decimal whole scaled
 returns c = refl
-
-pub constants_spec : {M : Type 1} → own.Statement.statement M
-constants_spec = own.Tie.close (own.Tie.spec returns)

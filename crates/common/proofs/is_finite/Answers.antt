@@ -4,7 +4,7 @@ use mathlib.Core.Path.{◌≡◌, refl, sym}
 use mathlib.Core.Bool.{true, false}
 use lib.Ieee.{Float, nan, inf, fin, lt, neg, div, of_bits}
 use Rattle.common.specs.Outcome.{finite}
-use Rattle.common.proofs.is_finite as own
+use Rattle.common.proofs.is_finite.Goals as goal
 
 above : (x : Float) → lt x (inf false) ≡ true → lt (inf true) x ≡ finite x
 unfolding lt
@@ -19,13 +19,10 @@ not_below nan h = refl
 not_below (inf s) h = refl
 not_below (fin s m e) h = sym h
 
-returns : own.Tie.Need-returns
+pub returns-then-x-top : goal.returns-then-x-top
 unfolding lt neg div of_bits
-returns c = above c.before.args.x c.if1.taken
+returns-then-x-top c = above c.args.x c.if-x-top.true
 
-returns-2 : own.Tie.Need-returns-2
+pub returns-else-x-top : goal.returns-else-x-top
 unfolding lt neg div of_bits
-returns-2 c = not_below c.before.args.x c.if1.left
-
-pub is_finite_spec : {M : Type 1} → own.Statement.statement M
-is_finite_spec = own.Tie.close (own.Tie.spec returns returns-2)
+returns-else-x-top c = not_below c.args.x c.if-x-top.false

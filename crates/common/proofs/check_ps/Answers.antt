@@ -1,0 +1,8 @@
+-- `common::check_ps` meets its contract: its literals are the range's decimals. Assumes nothing.
+use lib.Ieee.{of_bits}
+use Rattle.common.specs.Decimal.{decimal, whole, scaled}
+use Rattle.common.proofs.check_ps.Goals as goal
+
+pub returns : goal.returns
+unfolding of_bits decimal whole scaled
+returns c = c.check_pair.ensures
