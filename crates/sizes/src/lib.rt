@@ -1,5 +1,7 @@
 // How large a number is: the one test by which a fast form knows that no power of its base, up to 64 either way, leaves the normal range,
 // and the look at a power on its way.
+#![tactic(auto)]
+
 ghost use Rattle.std.specs.Prelude.{◌≡◌};
 ghost use Rattle.sizes.specs.Usual.{usual_base};
 ghost use Rattle.sizes.specs.Lost.{looked};
