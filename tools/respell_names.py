@@ -142,6 +142,19 @@ def respelled(text, table, proof):
     return re.sub(WORD, word, text)
 
 
+USE = re.compile(r"^\s*(?:pub )?use ([^\s{]+?)\.\{([^}]*)\}", re.M)
+
+
+def brought(text, crates):
+    """The names that a file brings from a library that is not the repository's: they keep the library's spelling."""
+    found = set()
+    for m in USE.finditer(text):
+        parts = m[1].split(".")
+        if not (parts[0] == "Rattle" and len(parts) > 1 and parts[1] in crates):
+            found.update(w.strip().split(" as ")[0] for w in m[2].split(","))
+    return found
+
+
 def touched(root):
     for folder, dirs, files in os.walk(os.path.join(root, "crates")):
         dirs[:] = sorted(d for d in dirs if d != "out")
@@ -170,10 +183,12 @@ def main():
     bad = [f"{new}: {olds}" for new, olds in sorted(back.items()) if len(olds) > 1]
     if bad:
         sys.exit("fall together: " + "; ".join(bad))
+    crates = set(os.listdir(os.path.join(root, "crates")))
     for path in touched(root):
         with open(path, encoding="utf-8") as f:
             text = f.read()
-        new = respelled(text, table, path.endswith("Proof.antt"))
+        kept = brought(text, crates) if path.endswith(".antt") else set()
+        new = respelled(text, {k: v for k, v in table.items() if k not in kept}, path.endswith("Proof.antt"))
         if path.endswith(".md"):
             # of a page only what stands between backticks
             new = re.sub(r"`[^`\n]*`", lambda m: respelled(m[0], {k: v for k, v in table.items() if "-" in k or re.search("[a-z][A-Z]", k)}, False), text)

@@ -1,7 +1,7 @@
 -- Of f64s above 0: a difference and a quotient grow with their first number, a sum with what is added; and of two numbers one is below the other or not. Assumes nothing.
 use mathlib.Core.Path.{◌≡◌, refl, sym, ◌∙◌, subst}
 use Prim.Native.Nat.{ℕ, zero, suc, ◌+◌, ◌-◌, ◌*◌, ◌≤◌, ◌<◌, zero-le}
-use native.Mathlib.Nat.{le_trans, le_of_eq, lt_of_le_of_lt, lt_of_not_le, not_le_of_lt, zero-lt-suc, mul_comm, mul-sub, mul-pos, mul-le-mul_right}
+use native.Mathlib.Nat.{le_trans, le_of_eq, lt_of_le_of_lt, lt_of_not-le, not-le_of_lt, zero-lt-suc, mul_comm, mul-sub, mul-pos, mul-le-mul_right}
 use native.Mathlib.Omega.{arith}
 use mathlib.Core.Bool.{Bool, true, false, ◌||◌, cond}
 use lib.IntN.{ℤ}
@@ -31,7 +31,7 @@ unfolding sum
 less_first a b c h = go (ltb a b) (ltb→lt a b)
   where
     go : (t : Bool) → (T t → a < b) → cond t (round binary64 true (b - a) c) (round binary64 false (a - b) c) ≡ round binary64 false (a - b) c
-    go true k = absurd (not_le_of_lt (k tt) h)
+    go true k = absurd (not-le_of_lt (k tt) h)
     go false k = refl
 
 opened : (m : ℕ) (e : ℤ) (n : ℕ) (d : ℤ) → sub binary64 (fin false m e) (fin false n d) ≡ sum binary64 false (m * up e * down d) true (n * up d * down e) (down e * down d)
@@ -115,7 +115,7 @@ not_both (fin false n d) (inf true) p h k = absurd (above_of_le (fin false n d) 
 not_both (fin false n d) (inf false) p h k = absurd k
 not_both (fin false n d) (fin true m e) p h k = absurd (above_of_le (fin false n d) (fin true m e) p h)
 not_both (fin false n d) (fin false m e) p h k =
-    not_le_of_lt (ltb→lt (m * up e * down d) (n * up d * down e) k) (le→cross (fin false n d) (fin false m e) p (above_of_le (fin false n d) (fin false m e) p h) h)
+    not-le_of_lt (ltb→lt (m * up e * down d) (n * up d * down e) k) (le→cross (fin false n d) (fin false m e) p (above_of_le (fin false n d) (fin false m e) p h) h)
 
 -- nor is one above it at most it
 pub not_both_above : (q z : Float) → T (positive q) → T (le z q) → T (lt q z) → ⊥
@@ -129,7 +129,7 @@ not_both_above (fin false n d) (inf false) p h k = unfold le in absurd h
 not_both_above (fin false n d) (fin true m e) p h k = absurd k
 not_both_above (fin false n d) (fin false m e) p h k =
     let l = ltb→lt (n * up d * down e) (m * up e * down d) k in
-    not_le_of_lt l (le→cross (fin false m e) (fin false n d) (lt→ltb 0 m (first_pos m (up e) (first_pos (m * up e) (down d) (lt_of_le_of_lt zero-le l)))) p h)
+    not-le_of_lt l (le→cross (fin false m e) (fin false n d) (lt→ltb 0 m (first_pos m (up e) (first_pos (m * up e) (down d) (lt_of_le_of_lt zero-le l)))) p h)
 
 pub not_below : (x y : Float) → T (positive y) → T (le y x) → lt x y ≡ false
 not_below x y p h = go (lt x y) refl
@@ -145,4 +145,4 @@ is_below x y p q = go (seen x p) (seen y q)
     go : {x y : Float} → Above x → Above y → (T (le y x) → ⊥) → lt x y ≡ true
     go (above0 m e p) (above0 n d q) h =
         is_true (ltb (suc m * up e * down d) (suc n * up d * down e)) (lt→ltb (suc m * up e * down d) (suc n * up d * down e)
-        (lt_of_not_le (λ g. h (cross→le (fin false (suc n) d) (fin false (suc m) e) q p g))))
+        (lt_of_not-le (λ g. h (cross→le (fin false (suc n) d) (fin false (suc m) e) q p g))))

@@ -2,7 +2,7 @@
 -- most d. Rounding keeps the order, so no error is reckoned with. Assumes nothing.
 use mathlib.Core.Path.{◌≡◌, refl, sym, ap, ◌∙◌, subst}
 use Prim.Native.Nat.{ℕ, zero, suc, ◌+◌, ◌-◌, ◌*◌, ◌/◌, ◌%◌, ◌^◌, ◌≤◌, ◌<◌}
-use native.Mathlib.Nat.{le_trans, le_of_eq, le_of_lt, lt_of_lt_of_le, lt_of_not_le, le_of_suc-le-suc, lt_irrefl, mul-one, mul_assoc, mul-pos, mul-le-mul, mul-le-mul_right, mul_right_comm, mul-lt-mul_of_pos_right, div-one, div-lt_iff_lt-mul, zero-div, zero-mul, mul-div_cancel}
+use native.Mathlib.Nat.{le_trans, le_of_eq, le_of_lt, lt_of_lt_of_le, lt_of_not-le, le_of_suc-le-suc, lt_irrefl, mul-one, mul_assoc, mul-pos, mul-le-mul, mul-le-mul_right, mul_right_comm, mul-lt-mul_of_pos_right, div-one, div-lt_iff_lt-mul, zero-div, zero-mul, mul-div_cancel}
 use native.Mathlib.Omega.{arith}
 use mathlib.Core.Bool.{true, false, ◌&&◌}
 use lib.IntN.{ℤ, pos, negsuc}
@@ -29,7 +29,7 @@ shift m n d h = ap (λ (x : ℕ). m * 1 * 2 ^ x) (sym (omega arith)) ∙ ap (λ 
     tidy x y = omega arith
 
 pow_le : (a l : ℕ) → 2 ^ a ≤ 2 ^ l → a ≤ l
-pow_le a l h = le_of_suc-le-suc (lt_of_not_le (λ (g : suc l ≤ a). lt_irrefl (2 ^ l) (lt_of_lt_of_le (pow-lt g) h)))
+pow_le a l h = le_of_suc-le-suc (lt_of_not-le (λ (g : suc l ≤ a). lt_irrefl (2 ^ l) (lt_of_lt_of_le (pow-lt g) h)))
 
 parted : (l m : ℕ) (e : ℤ) → down e ≤ 2 ^ l → m * up e * 2 ^ l ≡ m * up e * 2 ^ l / down e * down e
 parted l m (pos k) h = sym (mul-one (m * 2 ^ k * 2 ^ l / 1) ∙ div-one (m * 2 ^ k * 2 ^ l))
@@ -120,7 +120,7 @@ module _ (q d : Float) (fq : T (fits binary64 q)) (pq : T (positive q)) (fd : T 
   pub root_from : (T (le q (mul binary64 d d)) → ⊥) → T (le d r)
   root_from off =
       le_of_values d r (in_units d) (2 ^ 1074) (in_units r) (2 ^ 1074) (pow_pos 1074) (pow_pos 1074) d_units root_units
-      (mul-le-mul_right (2 ^ 1074) (le_of_suc-le-suc (lt_of_not_le (λ (g : in_units r < in_units d). off (beside g)))))
+      (mul-le-mul_right (2 ^ 1074) (le_of_suc-le-suc (lt_of_not-le (λ (g : in_units r < in_units d). off (beside g)))))
     where
       beside : in_units r < in_units d → T (le q (mul binary64 d d))
       beside g =
@@ -133,7 +133,7 @@ module _ (q d : Float) (fq : T (fits binary64 q)) (pq : T (positive q)) (fd : T 
   pub root_upto : (T (le (mul binary64 d d) q) → ⊥) → T (le r d)
   root_upto off =
       le_of_values r d (in_units r) (2 ^ 1074) (in_units d) (2 ^ 1074) (pow_pos 1074) (pow_pos 1074) root_units d_units
-      (mul-le-mul_right (2 ^ 1074) (le_of_suc-le-suc (lt_of_not_le (λ (g : in_units d < in_units r). off (beside g)))))
+      (mul-le-mul_right (2 ^ 1074) (le_of_suc-le-suc (lt_of_not-le (λ (g : in_units d < in_units r). off (beside g)))))
     where
       beside : in_units d < in_units r → T (le (mul binary64 d d) q)
       beside g =

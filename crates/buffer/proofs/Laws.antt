@@ -3,7 +3,7 @@ use mathlib.Core.Path.{◌≡◌, refl, sym, ap, ◌∙◌}
 use mathlib.Core.Bool.{true, false}
 use mathlib.Core.List.{List, [], ◌∷◌, ◌++◌, append-nil}
 use Prim.Native.Nat.{ℕ, zero, suc, ◌+◌, ◌*◌, ◌-◌, ◌/◌, ◌%◌, ◌^◌, ◌≤◌}
-use native.Mathlib.Nat.{add-zero, add-suc, suc-add, mul-suc, div-one, div-div-eq-div-mul, pow_suc}
+use native.Mathlib.Nat.{add-zero, add-suc, suc-add, mul-suc, div-one, div-div-eq-div-mul, pow-suc}
 use native.Mathlib.Numerals.{add-one}
 use native.Mathlib.Decide.{dec_le}
 use native.Mathlib.Omega.{arith}
@@ -67,7 +67,7 @@ abbrev pub bytes_to : ℕ → ℕ → List ℕ
 bytes_to n k = joined (λ i. (n / 256 ^ i % 256) ∷ []) k
 
 pub byte_next : (n k : ℕ) → n / 256 ^ k / 256 ≡ n / 256 ^ (k + 1)
-byte_next n k = div-div-eq-div-mul n (256 ^ k) 256 ∙ ap (λ (m : ℕ). n / m) (sym (ap (λ (m : ℕ). 256 ^ m) (add-one k) ∙ pow_suc 256 k))
+byte_next n k = div-div-eq-div-mul n (256 ^ k) 256 ∙ ap (λ (m : ℕ). n / m) (sym (ap (λ (m : ℕ). 256 ^ m) (add-one k) ∙ pow-suc 256 k))
 
 pub bytes_eight : (n : ℕ) → bytes_to n 8 ≡ eight n
 unfolding joined

@@ -3,7 +3,7 @@ use mathlib.Core.Path.{◌≡◌, refl, sym, subst}
 use mathlib.Core.Logic.{inl, inr}
 use mathlib.Core.Bool.{true, false}
 use Prim.Native.Nat.{ℕ, ◌*◌, ◌^◌, ◌≤◌, ◌<◌}
-use native.Mathlib.Nat.{eq-zero-or-pos, le_trans, le_of_eq, mul-le-mul_right, le_of_mul_le_mul_right, mul_right_comm, mul-pos, one-mul}
+use native.Mathlib.Nat.{eq-zero-or-pos, le_trans, le_of_eq, mul-le-mul_right, le_of_mul-le-mul_right, mul_right_comm, mul-pos, one-mul}
 use native.Mathlib.Omega.{arith}
 use lib.Dec.{leb}
 use lib.IntN.{ℤ, nat_abs}
@@ -24,7 +24,7 @@ least : (A D P Q : ℕ) → 0 < P → A * Q ≡ P * D → D ≤ A * Q
 least A D P Q p e = le_trans (le_of_eq (sym (one-mul D))) (le_trans (mul-le-mul_right D p) (le_of_eq (sym e)))
 
 most : (A D P N Q : ℕ) → 0 < Q → A * Q ≡ P * D → P ≤ N * Q → A ≤ N * D
-most A D P N Q q e l = le_of_mul_le_mul_right (le_trans (le_of_eq e) (le_trans (mul-le-mul_right D l) (le_of_eq (mul_right_comm N Q D)))) q
+most A D P N Q q e l = le_of_mul-le-mul_right (le_trans (le_of_eq e) (le_trans (mul-le-mul_right D l) (le_of_eq (mul_right_comm N Q D)))) q
 
 none : (m u Q D : ℕ) → 0 < u → 0 < Q → m * u * Q ≡ 0 * D → m ≡ 0
 none m u Q D up-p q-p e = elim (eq-zero-or-pos m) [ inl z ↦ z | inr p ↦ absurd (clash (m * u * Q) D (mul-pos (mul-pos p up-p) q-p) e) ]

@@ -2,7 +2,7 @@
 -- 3wx, what `T_saturation` and `B23_p2T` answer. (The nine polynomials: distance/proofs/Contract.) Assumes nothing.
 use mathlib.Core.Path.{◌≡◌, refl, sym, ap, ◌∙◌, subst}
 use Prim.Native.Nat.{ℕ, ◌*◌, ◌≤◌, ◌<◌}
-use native.Mathlib.Nat.{le_trans, lt_of_le_of_lt, le_of_lt, le_of_mul_le_mul_right, mul-le-mul_right, mul-one, zero-lt-suc}
+use native.Mathlib.Nat.{le_trans, lt_of_le_of_lt, le_of_lt, le_of_mul-le-mul_right, mul-le-mul_right, mul-one, zero-lt-suc}
 use mathlib.Core.Bool.{false}
 use lib.Dec.{T, lit<, lit≤}
 use lib.Pow.{pow_pos}
@@ -94,7 +94,7 @@ module _ (p : Float) (held : T (fits binary64 p)) (from : T (le p_range_from p))
       follows (line_at line3op P) distance3op c.number (accepted Op ∙ c.is) c.close
 
   from_16 : 16 * Q ≤ P
-  from_16 = le_of_mul_le_mul_right (le_trans (lit≤ {m = 16 * Q * 1000} {n = 16528 * Q} tt) (le_of_lt at.from_16)) (zero-lt-suc 999)
+  from_16 = le_of_mul-le-mul_right (le_trans (lit≤ {m = 16 * Q * 1000} {n = 16528 * Q} tt) (le_of_lt at.from_16)) (zero-lt-suc 999)
 
   pub distance_3wx : T (le p (whole 23)) → Follows (line_at line3wx P) distance3wx (boundary_rule Wx p)
   unfolding line_at
@@ -134,7 +134,7 @@ module _ (p : Float) (held : T (fits binary64 p)) (from : T (le p_range_from p))
   upto_critical =
       le_trans
       (mul-le-mul_right {n = scaled_by 48 p_max4} 1000
-      (le_of_mul_le_mul_right (values_of_le p p_max4 P4 Q (scaled_by 48 p_max4) Q positive_p tt place.whole_p max_value to) (pow_pos 48)))
+      (le_of_mul-le-mul_right (values_of_le p p_max4 P4 Q (scaled_by 48 p_max4) Q positive_p tt place.whole_p max_value to) (pow_pos 48)))
       (lit≤ tt)
 
   pub distance_saturation : Follows (line_at saturationLine P4) saturation_distance (T_saturation_rule p)

@@ -1,7 +1,7 @@
 -- What is known of p and t of the box: p is P / 2^48 and t is n / 2^43, both above 0. Assumes nothing.
 use mathlib.Core.Path.{◌≡◌, refl}
 use Prim.Native.Nat.{ℕ, ◌*◌, ◌^◌, ◌≤◌, ◌<◌}
-use native.Mathlib.Nat.{lt_of_lt_of_le, mul-le-mul_right, le_of_mul_le_mul_right, zero-lt-suc}
+use native.Mathlib.Nat.{lt_of_lt_of_le, mul-le-mul_right, le_of_mul-le-mul_right, zero-lt-suc}
 use mathlib.Core.Bool.{true, false}
 use lib.Dec.{T, lit<, lit≤}
 use lib.Pow.{pow_pos}
@@ -57,7 +57,7 @@ module _ (p t : Float) (i : InBox p t) where
   least =
       lt_of_lt_of_le (lit< {m = 16528 * Q} {n = scaled_by 48 p_range_from * 1000} tt)
       (mul-le-mul_right {m = scaled_by 48 p_range_from} 1000
-      (le_of_mul_le_mul_right (values_of_le p_range_from p (scaled_by 48 p_range_from) Q P Q tt above_0 exact_from has_p i.p_from) (pow_pos 48)))
+      (le_of_mul-le-mul_right (values_of_le p_range_from p (scaled_by 48 p_range_from) Q P Q tt above_0 exact_from has_p i.p_from) (pow_pos 48)))
 
   pub placed : Placed p t
   placed = record {

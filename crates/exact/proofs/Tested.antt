@@ -2,7 +2,7 @@
 -- computed test of two f64s gives the exact letter, with the sides read off the f64s. Assumes nothing.
 use mathlib.Core.Path.{◌≡◌, refl, sym, ap, subst}
 use Prim.Native.Nat.{ℕ, ◌+◌, ◌*◌, ◌^◌, ◌≤◌, ◌<◌}
-use native.Mathlib.Nat.{mul-le-mul_right, le_of_mul_le_mul_right}
+use native.Mathlib.Nat.{mul-le-mul_right, le_of_mul-le-mul_right}
 use native.Mathlib.Omega.{arith}
 use mathlib.Core.Bool.{Bool, true, false, not, ◌&&◌}
 use mathlib.Core.List.{List, [], ◌∷◌}
@@ -34,7 +34,7 @@ use Rattle.exact.proofs.Whole.{in_range_lem, exact_letter_lem}
 below_by : (uo uu us vo vu vs zo zu zs : ℕ) → 0 < vs → uo * vs + vu * us + 2 * (us * vs) ≤ vo * us + uu * vs
     → vo * zs + zu * vs ≤ zo * vs + vu * zs + 1 * (vs * zs)
     → uo * zs + zu * us + 1 * (us * zs) ≤ zo * us + uu * zs
-below_by uo uu us vo vu vs zo zu zs P h g = le_of_mul_le_mul_right (go (mul-le-mul_right zs h) (mul-le-mul_right us g)) P
+below_by uo uu us vo vu vs zo zu zs P h g = le_of_mul-le-mul_right (go (mul-le-mul_right zs h) (mul-le-mul_right us g)) P
   where
     go : (uo * vs + vu * us + 2 * (us * vs)) * zs ≤ (vo * us + uu * vs) * zs → (vo * zs + zu * vs) * us ≤ (zo * vs + vu * zs + 1 * (vs * zs)) * us
         → (uo * zs + zu * us + 1 * (us * zs)) * vs ≤ (zo * us + uu * zs) * vs

@@ -2,8 +2,8 @@
 -- fraction of ln p and every later one lie within 9^(1-n) of each other, so that they converge. Assumes nothing.
 use mathlib.Core.Path.{◌≡◌, refl, sym, ap, ◌∙◌, subst}
 use Prim.Native.Nat.{ℕ, zero, suc, ◌+◌, ◌-◌, ◌*◌, ◌/◌, ◌%◌, ◌^◌, ◌≤◌, ◌<◌}
-use native.Mathlib.Nat.{le_trans, le_of_lt, lt_of_not_le, lt_of_lt_of_le, le-add_right, mul-one, pow-succ', mul-le-mul_left, mul-le-mul_right, mul_comm}
-use native.Mathlib.Nat.{mul-pos, le_of_mul_le_mul_right, div-mul-le_self, div-add-mod', mod-lt}
+use native.Mathlib.Nat.{le_trans, le_of_lt, lt_of_not-le, lt_of_lt_of_le, le-add_right, mul-one, pow-succ', mul-le-mul_left, mul-le-mul_right, mul_comm}
+use native.Mathlib.Nat.{mul-pos, le_of_mul-le-mul_right, div-mul-le_self, div-add-mod', mod-lt}
 use native.Mathlib.Omega.{arith}
 use native.Mathlib.Decide.{dec_le}
 use mathlib.Core.Bool.{Bool, true, false, not, cond}
@@ -249,7 +249,7 @@ square_small z P s = record {
           where
             open' : (a D : ℕ) → a * (a + D) + (a + D) * a ≤ a * a + (a + D) * (a + D)
             open' a D = omega arith
-        go (no h) = subst (λ (a : ℕ). a * b + b * a ≤ a * a + b * b) (sym (apart (le_of_lt (lt_of_not_le h)))) (open' b (a - b))
+        go (no h) = subst (λ (a : ℕ). a * b + b * a ≤ a * a + b * b) (sym (apart (le_of_lt (lt_of_not-le h)))) (open' b (a - b))
           where
             open' : (b D : ℕ) → (b + D) * b + b * (b + D) ≤ (b + D) * (b + D) + b * b
             open' b D = omega arith
@@ -353,7 +353,7 @@ ln_by_left n j e P l t =
 
     coarse : (X Y S D N : ℕ) → D ≡ 8 * N → X * (D * 1 * 1) ≤ Y * (D * 1 * 1) + (9 * 1 * e + 9 * 1) * S → X * N ≤ Y * N + 9 * S
     coarse X Y S D N d h =
-        le_of_mul_le_mul_right (go (subst (λ (D : ℕ). X * (D * 1 * 1) ≤ Y * (D * 1 * 1) + (9 * 1 * e + 9 * 1) * S) d h) (mul-le-mul_right S l))
+        le_of_mul-le-mul_right (go (subst (λ (D : ℕ). X * (D * 1 * 1) ≤ Y * (D * 1 * 1) + (9 * 1 * e + 9 * 1) * S) d h) (mul-le-mul_right S l))
         (lit< {m = 0} {n = 8} tt)
       where
         go : X * (8 * N * 1 * 1) ≤ Y * (8 * N * 1 * 1) + (9 * 1 * e + 9 * 1) * S → e * S ≤ 7 * S → X * N * 8 ≤ (Y * N + 9 * S) * 8

@@ -1,7 +1,7 @@
 -- The logarithm's rule is its steps with no check, checked once, at a number's 53 digits. In order: the checks, m, its places, and the rule. Assumes nothing.
 use mathlib.Core.Path.{◌≡◌, sym, ap, ◌∙◌, subst}
 use Prim.Native.Nat.{ℕ, suc, ◌+◌, ◌-◌, ◌*◌, ◌^◌, ◌≤◌, ◌<◌}
-use native.Mathlib.Nat.{le_trans, le_of_eq, le_of_lt, lt_of_lt_of_le, lt_of_not_le, mul-pos, mul_assoc, mul_right_comm, mul-le-mul_right, mul-lt-mul_of_pos_right, le_of_mul_le_mul_right, lt_of_mul-lt-mul_right, pow-succ'}
+use native.Mathlib.Nat.{le_trans, le_of_eq, le_of_lt, lt_of_lt_of_le, lt_of_not-le, mul-pos, mul_assoc, mul_right_comm, mul-le-mul_right, mul-lt-mul_of_pos_right, le_of_mul-le-mul_right, lt_of_mul-lt-mul_right, pow-succ'}
 use native.Mathlib.Omega.{arith}
 use mathlib.Core.Bool.{Bool, true, false, cond}
 use native.Mathlib.Decide.{dec_le}
@@ -71,13 +71,13 @@ plus_one (inf s) d j h g v = absurd v
 plus_one (fin true n i) d j h g v = absurd (subst T v.0 tt)
 plus_one (fin false n i) d j h g v =
     small_finite (n * up i * 1 + 1 * down i) (down i * 1) (mul-pos (down_pos i) (pow_pos 0))
-    (omega (arith, le_of_mul_le_mul_right {n = 2 * down i} (le_trans (le_of_eq v.1) (at_most d j (down i) h g)) (pow_pos 1074)))
+    (omega (arith, le_of_mul-le-mul_right {n = 2 * down i} (le_trans (le_of_eq v.1) (at_most d j (down i) h g)) (pow_pos 1074)))
 
 -- ---- the places
 size_of : (x d e : ℕ) → 2 ^ 52 ≤ d → d < 2 ^ 53 → d * 2 ^ e ≡ x * 2 ^ 52 → size x ≡ suc e
 size_of x d e lo hi p =
     size_is x e
-    (le_of_mul_le_mul_right {n = x} (le_trans (le_of_eq (omega arith)) (le_trans (mul-le-mul_right (2 ^ e) lo) (le_of_eq p))) (pow_pos 52))
+    (le_of_mul-le-mul_right {n = x} (le_trans (le_of_eq (omega arith)) (le_trans (mul-le-mul_right (2 ^ e) lo) (le_of_eq p))) (pow_pos 52))
     (lt_of_mul-lt-mul_right (2 ^ 52) (lt_of_lt_of_le (subst (λ (y : ℕ). y < 2 ^ 53 * 2 ^ e) p (mul-lt-mul_of_pos_right hi (pow_pos e))) (le_of_eq (twice (2 ^ e) ∙ ap (λ (y : ℕ). y * 2 ^ 52) (sym (pow-succ' 2 e))))))
   where
     twice : (a : ℕ) → 2 ^ 53 * a ≡ 2 * a * 2 ^ 52
@@ -119,7 +119,7 @@ module _ (x d e : ℕ) (p : PartsOf x d e) where
     where
       go : Dec (3 * 2 ^ 51 ≤ d) → (r : Float) × (ln_of x ≡ check r)
       go (yes h) = (of 1, ln_at 1 (omega arith) (places_high h))
-      go (no h) = (of 0, ln_at 0 (omega arith) (places_low (lt_of_not_le h)))
+      go (no h) = (of 0, ln_at 0 (omega arith) (places_low (lt_of_not-le h)))
 
 pub ln_of_lem : (x : Float) → T (positive x) → logarithm_rule x ≡ ln_of (in_units x)
 unfolding logarithm_rule

@@ -3,7 +3,7 @@
 use mathlib.Core.Path.{◌≡◌, refl, sym, ap, ◌∙◌, subst}
 use mathlib.Core.Logic.{⊎_elim}
 use Prim.Native.Nat.{ℕ, zero, suc, ◌+◌, ◌-◌, ◌*◌, ◌/◌, ◌%◌, ◌^◌, ◌≤◌, ◌<◌}
-use native.Mathlib.Nat.{le_refl, le_trans, le_of_eq, le_of_lt, lt_of_lt_of_le, lt_of_le_of_lt, lt_of_not_le, not_le_of_lt, le_of_suc-le-suc, lt_irrefl, mul-le-mul, mul-le-mul_right, mul-lt-mul_of_pos_right, lt_of_mul-lt-mul_right, mul-pos, mul_assoc, mul-one, mul-div_cancel, div-one, pow-succ', eq-or-lt_of_le, zero-mul, zero-div, add_comm, le_antisymm}
+use native.Mathlib.Nat.{le_refl, le_trans, le_of_eq, le_of_lt, lt_of_lt_of_le, lt_of_le_of_lt, lt_of_not-le, not-le_of_lt, le_of_suc-le-suc, lt_irrefl, mul-le-mul, mul-le-mul_right, mul-lt-mul_of_pos_right, lt_of_mul-lt-mul_right, mul-pos, mul_assoc, mul-one, mul-div_cancel, div-one, pow-succ', eq-or-lt_of_le, zero-mul, zero-div, add_comm, le_antisymm}
 use native.Mathlib.Omega.{arith}
 use mathlib.Core.Bool.{Bool, true, false, not, ◌&&◌, cond}
 use native.Mathlib.Decide.{dec_le}
@@ -49,7 +49,7 @@ shaped l m (negsuc a) h = (
 )
   where
     pow_le : (a l : ℕ) → 2 ^ a ≤ 2 ^ l → a ≤ l
-    pow_le a l h = le_of_suc-le-suc (lt_of_not_le (λ (g : suc l ≤ a). lt_irrefl (2 ^ l) (lt_of_lt_of_le (pow-lt g) h)))
+    pow_le a l h = le_of_suc-le-suc (lt_of_not-le (λ (g : suc l ≤ a). lt_irrefl (2 ^ l) (lt_of_lt_of_le (pow-lt g) h)))
 
 pub shape : (y : Float) → T (fits binary64 y) → T (from_zero y) → (m : ℕ) × (j : ℕ) × (m < 2 ^ 53) × (in_units y ≡ m * 2 ^ j)
 unfolding fits in_units
@@ -75,7 +75,7 @@ multiple m j k h g =
     (m * 2 ^ (j - k), ap (λ (x : ℕ). m * x) (ap (λ (x : ℕ). 2 ^ x) (sym (back j k i)) ∙ pow-add 2 (j - k) k) ∙ sym (mul_assoc m (2 ^ (j - k)) (2 ^ k)))
   where
     down_le : (a b : ℕ) → 2 ^ a < 2 ^ b → a < b
-    down_le a b h = lt_of_not_le (λ (g : b ≤ a). lt_irrefl (2 ^ a) (lt_of_lt_of_le h (pow_mono g)))
+    down_le a b h = lt_of_not-le (λ (g : b ≤ a). lt_irrefl (2 ^ a) (lt_of_lt_of_le h (pow_mono g)))
 
     less : (a b : ℕ) → 2 ^ (52 + k) < 2 ^ (53 + j) → k ≤ j
     less a b h = let z = down_le (52 + k) (53 + j) h in omega arith
@@ -125,7 +125,7 @@ module _ (x a k r : ℕ) (N : x * 2 ^ 1074 ≡ a * (2 ^ k * 2 ^ k)) (g : Near a 
           let z = multiple m j k h i in
           let w : z.0 < r = lt_of_mul-lt-mul_right (2 ^ k) (lt_of_le_of_lt (le_of_eq (sym z.1)) g') in
           le_trans (le_of_eq z.1) (mul-le-mul_right (2 ^ k) (omega (arith, subst (λ (y : ℕ). z.0 < y) e w)))
-      go (no i) = le_trans (le_of_lt (lt_of_not_le i)) (mul-le-mul_right (2 ^ k) l)
+      go (no i) = le_trans (le_of_lt (lt_of_not-le i)) (mul-le-mul_right (2 ^ k) l)
 
   lower : (m j : ℕ) → m < 2 ^ 53 → m * 2 ^ j < r * 2 ^ k → (r * 2 ^ k + m * 2 ^ j) * (r * 2 ^ k + m * 2 ^ j) < 4 * (x * 2 ^ 1074)
   lower m j h l = ⊎_elim least more (eq-or-lt_of_le lo)
@@ -236,12 +236,12 @@ from_units (fin false m e) f t = sym (of_bits-to_bits binary64 (fin false m e) f
 -- and that says which f64 it is: two that are nearest are one
 units_one : (x : ℕ) (r s : Float) → T (fits binary64 r) → T (from_zero r) → T (fits binary64 s) → T (from_zero s) → NearestRoot x r → NearestRoot x s → in_units r < in_units s → ⊥
 units_one x r s f t g u p q l =
-    not_le_of_lt ((p s g u).0 l) (le_of_lt (subst (λ (w : ℕ). w * w < 4 * (x * 2 ^ 1074)) (add_comm (in_units s) (in_units r)) ((q r f t).1 l)))
+    not-le_of_lt ((p s g u).0 l) (le_of_lt (subst (λ (w : ℕ). w * w < 4 * (x * 2 ^ 1074)) (add_comm (in_units s) (in_units r)) ((q r f t).1 l)))
 
 pub nearest_one : (x : ℕ) (r s : Float) → T (fits binary64 r) → T (from_zero r) → T (fits binary64 s) → T (from_zero s) → NearestRoot x r → NearestRoot x s → r ≡ s
 nearest_one x r s f t g u p q =
-    let a : in_units s ≤ in_units r = le_of_suc-le-suc (lt_of_not_le (units_one x r s f t g u p q)) in
-    let b : in_units r ≤ in_units s = le_of_suc-le-suc (lt_of_not_le (units_one x s r g u f t q p)) in
+    let a : in_units s ≤ in_units r = le_of_suc-le-suc (lt_of_not-le (units_one x r s f t g u p q)) in
+    let b : in_units r ≤ in_units s = le_of_suc-le-suc (lt_of_not-le (units_one x s r g u f t q p)) in
     from_units r f t ∙ ap (λ (n : ℕ). of_bits binary64 (bits_of false n)) (le_antisymm b a) ∙ sym (from_units s g u)
 
 -- so it is the f64 that is nearest, and no other is
@@ -258,7 +258,7 @@ m_range x z = go (size x) refl
     pick s l h false y n = let i = n tt in omega (arith, pow-succ' 2 s)
 
     go : (w : ℕ) → size x ≡ w → (3 * 2 ^ places x ≤ 4 * x) × (2 * x < 3 * 2 ^ places x)
-    go zero e = absurd (not_le_of_lt (subst (λ (y : ℕ). x < 2 ^ y) e (size-lt x)) z)
+    go zero e = absurd (not-le_of_lt (subst (λ (y : ℕ). x < 2 ^ y) e (size-lt x)) z)
     go (suc s) e =
         let at : places x ≡ cond (ltb (2 * x) (3 * 2 ^ s)) s (suc s) = ap (λ (w : ℕ). cond (ltb (2 * x) (3 * 2 ^ (w - 1))) (w - 1) w) e ∙ ap (λ (w : ℕ). cond (ltb (2 * x) (3 * 2 ^ w)) w (suc s)) (omega arith) in
         subst (λ (k : ℕ). (3 * 2 ^ k ≤ 4 * x) × (2 * x < 3 * 2 ^ k)) (sym at)

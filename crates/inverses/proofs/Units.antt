@@ -1,7 +1,7 @@
 -- A float above 0 taken apart: how many units of 2^-1074 it is, by its bits, and its 53 leading digits. Assumes nothing.
 use mathlib.Core.Path.{◌≡◌, sym, ap, ◌∙◌, subst}
 use Prim.Native.Nat.{ℕ, zero, suc, ◌+◌, ◌-◌, ◌*◌, ◌/◌, ◌%◌, ◌^◌, ◌≤◌, ◌<◌}
-use native.Mathlib.Nat.{le_trans, le_of_eq, lt_of_lt_of_le, lt_of_not_le, not_le_of_lt, zero-lt-suc, mul-pos, one-mul, mul_comm, mul_assoc, mul-le-mul_right, mul-lt-mul_of_pos_right, mul-div_cancel, le-div_iff_mul-le}
+use native.Mathlib.Nat.{le_trans, le_of_eq, lt_of_lt_of_le, lt_of_not-le, not-le_of_lt, zero-lt-suc, mul-pos, one-mul, mul_comm, mul_assoc, mul-le-mul_right, mul-lt-mul_of_pos_right, mul-div_cancel, le-div_iff_mul-le}
 use native.Mathlib.Omega.{arith}
 use mathlib.Core.Bool.{Bool, true, false, not, ◌&&◌}
 use lib.Dec.{T, leb, ltb, eqb, leb→le}
@@ -66,7 +66,7 @@ PartsOf n d e = (2 ^ 52 ≤ d) × (d < 2 ^ 53) × (e < 2098) × (d * 2 ^ e ≡ n
 leading : (b : ℕ) → 0 < b → b < 2 ^ 52 → (j : ℕ) × (count_leading_zeros 64 b + suc j ≡ 64) × (2 ^ j ≤ b) × (b < 2 ^ suc j) × (j < 52)
 leading b z h =
     let t = leading_top 64 b z (omega arith) in
-    (t.0, t.1, t.2, t.3, lt_of_not_le (λ (g : 52 ≤ t.0). not_le_of_lt h (le_trans (pow_mono g) t.2)))
+    (t.0, t.1, t.2, t.3, lt_of_not-le (λ (g : 52 ≤ t.0). not-le_of_lt h (le_trans (pow_mono g) t.2)))
 
 pub zeros : (b : ℕ) → 0 < b → b < 2 ^ 52 → (12 ≤ count_leading_zeros 64 b) × (count_leading_zeros 64 b ≤ 63)
 zeros b z h = let t = leading b z h in omega (arith, t.1, t.4)

@@ -1,13 +1,13 @@
 -- `whole_root` is the whole part of the root, and `nearest_root` is settled by two comparisons at 53 digits. Assumes nothing.
 use mathlib.Core.Path.{◌≡◌, sym, ap, ◌∙◌, subst}
 use Prim.Native.Nat.{ℕ, zero, suc, ◌+◌, ◌-◌, ◌*◌, ◌/◌, ◌%◌, ◌^◌, ◌≤◌, ◌<◌, compare, Ordering}
-use native.Mathlib.Nat.{le_refl, le_trans, le_of_eq, lt_of_lt_of_le, lt_of_le_of_lt, lt_of_not_le, not_le_of_lt, le_of_suc-le-suc, mul-le-mul, mul-le-mul_right, le_of_mul_le_mul_right, lt_of_mul-lt-mul_right, mul-pos, pow-succ', div-mul-le_self, div-lt_iff_lt-mul, lt-suc_self, eq_of_mul-eq-mul_right, mul_assoc, mul_right_comm}
+use native.Mathlib.Nat.{le_refl, le_trans, le_of_eq, lt_of_lt_of_le, lt_of_le_of_lt, lt_of_not-le, not-le_of_lt, le_of_suc-le-suc, mul-le-mul, mul-le-mul_right, le_of_mul-le-mul_right, lt_of_mul-lt-mul_right, mul-pos, pow-succ', div-mul-le_self, div-lt_iff_lt-mul, lt-suc_self, eq_of_mul-eq-mul_right, mul_assoc, mul_right_comm}
 use native.Mathlib.Omega.{arith}
 use mathlib.Core.Bool.{Bool, true, false, not, cond}
 use lib.Dec.{T, leb, leb→le, nleb→lt}
 use lib.Pow.{pow_pos, pow_mono, pow-add}
 use lib.Ieee.{Float, binary64, size, nearest, units}
-use lib.Ieee.Digits.{size-lt, size_le}
+use lib.Ieee.Digits.{size-lt, size-le}
 use Rattle.rules.proofs.Rounds.{Cmp, cmp}
 use Rattle.inverses.specs.Root.{longer, whole_root, nearest_root}
 
@@ -38,8 +38,8 @@ whole_root_lem n = root_of_lem (size n) n (lt_of_lt_of_le (size-lt n) (two_le_fo
 -- ---- a number's digits
 pub size_is : (r j : ℕ) → 2 ^ j ≤ r → r < 2 ^ suc j → size r ≡ suc j
 size_is r j l h =
-    let a = size_le r (suc j) h in
-    let b : j < size r = lt_of_not_le (λ (g : size r ≤ j). not_le_of_lt (lt_of_lt_of_le (size-lt r) (pow_mono g)) l) in
+    let a = size-le r (suc j) h in
+    let b : j < size r = lt_of_not-le (λ (g : size r ≤ j). not-le_of_lt (lt_of_lt_of_le (size-lt r) (pow_mono g)) l) in
     omega arith
 
 -- ---- the nearest whole number to the root of a: above the root of a less a half, and at most that more
@@ -56,8 +56,8 @@ apart a r s g h l =
 
 pub near_one : (a r s : ℕ) → Near a r → Near a s → r ≡ s
 near_one a r s g h =
-    let l : r ≤ s = le_of_suc-le-suc (lt_of_not_le (λ (x : suc s ≤ r). apart a s r h g x)) in
-    let m : s ≤ r = le_of_suc-le-suc (lt_of_not_le (λ (x : suc r ≤ s). apart a r s g h x)) in
+    let l : r ≤ s = le_of_suc-le-suc (lt_of_not-le (λ (x : suc s ≤ r). apart a s r h g x)) in
+    let m : s ≤ r = le_of_suc-le-suc (lt_of_not-le (λ (x : suc r ≤ s). apart a r s g h x)) in
     omega arith
 
 -- ---- `nearest_root`
@@ -79,18 +79,18 @@ square b p = omega arith
 -- n is a * 4^k, p being 2^k: its whole root r has 53 + k digits, and r / 2^k is the whole root of a
 module _ (a p n r : ℕ) (P : 0 < p) (N : n ≡ a * (p * p)) (root : IsRoot n r) where
   root_low : (b : ℕ) → b * b ≤ a → b * p ≤ r
-  root_low b l = le_of_suc-le-suc (lt_of_not_le (λ (x : suc r ≤ b * p).
-      not_le_of_lt root.1
+  root_low b l = le_of_suc-le-suc (lt_of_not-le (λ (x : suc r ≤ b * p).
+      not-le_of_lt root.1
       (le_trans (mul-le-mul (le_trans (le_of_eq (omega arith)) x) (le_trans (le_of_eq (omega arith)) x))
       (le_trans (le_of_eq (sym (square b p))) (le_trans (mul-le-mul_right (p * p) l) (le_of_eq (sym N)))))))
 
   root_high : (b : ℕ) → a < b * b → r < b * p
-  root_high b l = lt_of_not_le (λ (x : b * p ≤ r).
-      not_le_of_lt l (le_of_mul_le_mul_right (le_trans (le_of_eq (square b p)) (le_trans (mul-le-mul x x) (le_trans root.0 (le_of_eq N)))) (mul-pos P P)))
+  root_high b l = lt_of_not-le (λ (x : b * p ≤ r).
+      not-le_of_lt l (le_of_mul-le-mul_right (le_trans (le_of_eq (square b p)) (le_trans (mul-le-mul x x) (le_trans root.0 (le_of_eq N)))) (mul-pos P P)))
 
   part : IsRoot a (r / p)
   part = (
-    le_of_mul_le_mul_right (le_trans (le_of_eq (square (r / p) p)) (le_trans (mul-le-mul (div-mul-le_self r p) (div-mul-le_self r p)) (le_trans root.0 (le_of_eq N)))) (mul-pos P P),
+    le_of_mul-le-mul_right (le_trans (le_of_eq (square (r / p) p)) (le_trans (mul-le-mul (div-mul-le_self r p) (div-mul-le_self r p)) (le_trans root.0 (le_of_eq N)))) (mul-pos P P),
     lt_of_mul-lt-mul_right (p * p) (lt_of_le_of_lt (le_of_eq (sym N)) (lt_of_lt_of_le root.1 (le_trans (mul-le-mul above above) (le_of_eq (omega arith))))),
   )
     where
@@ -144,10 +144,10 @@ at_half x d0 e d k h g =
 
 -- a root of 53 digits
 pub near_low : (d r : ℕ) → 2 ^ 52 ≤ d → Near (d * 2 ^ 52) r → 2 ^ 52 ≤ r
-near_low d r h g = le_of_suc-le-suc (lt_of_not_le (λ (x : suc r ≤ 2 ^ 52). let m : r * r ≤ (2 ^ 52 - 1) * r = mul-le-mul_right r (omega arith) in omega (arith, g.1)))
+near_low d r h g = le_of_suc-le-suc (lt_of_not-le (λ (x : suc r ≤ 2 ^ 52). let m : r * r ≤ (2 ^ 52 - 1) * r = mul-le-mul_right r (omega arith) in omega (arith, g.1)))
 
 pub near_high : (d r : ℕ) → d ≤ 2 ^ 54 - 2 → Near (d * 2 ^ 52) r → r < 2 ^ 53
-near_high d r h g = lt_of_not_le (λ (x : 2 ^ 53 ≤ r). no x)
+near_high d r h g = lt_of_not-le (λ (x : 2 ^ 53 ≤ r). no x)
   where
     no : 2 ^ 53 ≤ r → ⊥
     no x = let m : 2 ^ 53 * r ≤ r * r = mul-le-mul_right r x in omega (arith, g.0, m, h, x)

@@ -4,7 +4,7 @@ use mathlib.Core.Path.{◌≡◌, refl, sym, ap, ◌∙◌}
 use mathlib.Core.Bool.{Bool, true, false, not, ◌&&◌, cond}
 use mathlib.Core.List.{List, [], ◌∷◌}
 use Prim.Native.Nat.{ℕ, ◌*◌, ◌^◌, ◌≤◌, ◌<◌}
-use native.Mathlib.Nat.{le_trans, le_of_eq, le_of_lt, mul-one, one-mul, mul_comm, mul_assoc, mul_right_comm, mul-le-mul_right, mul-le-mul_left, le_of_mul_le_mul_right, mul-lt-mul_of_pos_right, lt_of_not_le, not_le_of_lt}
+use native.Mathlib.Nat.{le_trans, le_of_eq, le_of_lt, mul-one, one-mul, mul_comm, mul_assoc, mul_right_comm, mul-le-mul_right, mul-le-mul_left, le_of_mul-le-mul_right, mul-lt-mul_of_pos_right, lt_of_not-le, not-le_of_lt}
 use lib.Dec.{T, leb, ltb}
 use lib.IntN.{pos}
 use lib.Pow.{pow_pos}
@@ -62,7 +62,7 @@ kept a r x y (false ∷ bs) h g e = let w = kept a r (mul binary64 x x) y bs h g
 -- z at most x, and x at most t / u, or less
 pub under_at_most : (Z C A D t u : ℕ) → 0 < D → Z * D ≤ A * C → A * t ≤ D * u → Z * t ≤ C * u
 under_at_most Z C A D t u p h l =
-    le_of_mul_le_mul_right
+    le_of_mul-le-mul_right
     (le_trans (le_of_eq (mul_right_comm Z t D))
     (le_trans (mul-le-mul_right t h)
     (le_trans (le_of_eq (mul_right_comm A C t))
@@ -71,8 +71,8 @@ under_at_most Z C A D t u p h l =
 
 under_below : (Z C A D t : ℕ) → 0 < D → 0 < C → Z * D ≤ A * C → A * t < D → Z * t < C
 under_below Z C A D t p q h l =
-    lt_of_not_le (λ (g : C ≤ Z * t).
-    not_le_of_lt (mul-lt-mul_of_pos_right l q)
+    lt_of_not-le (λ (g : C ≤ Z * t).
+    not-le_of_lt (mul-lt-mul_of_pos_right l q)
     (le_trans (le_of_eq (mul_comm D C))
     (le_trans (mul-le-mul_right D g)
     (le_trans (le_of_eq (mul_right_comm Z t D))

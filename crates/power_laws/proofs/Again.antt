@@ -2,7 +2,7 @@
 use mathlib.Core.Path.{◌≡◌, refl, sym, ap, ◌∙◌}
 use mathlib.Core.Bool.{Bool, ◌&&◌}
 use Prim.Native.Nat.{ℕ, zero, suc, ◌+◌, ◌-◌, ◌*◌, ◌%◌, ◌^◌, ◌≤◌, ◌<◌}
-use native.Mathlib.Nat.{le_trans, le_of_eq, lt_of_not_le, not_le_of_lt, mul-one, one-mul, zero-mul, mul_assoc, mul_right_comm, mul-le-mul_right, mul-lt-mul_of_pos_right}
+use native.Mathlib.Nat.{le_trans, le_of_eq, lt_of_not-le, not-le_of_lt, mul-one, one-mul, zero-mul, mul_assoc, mul_right_comm, mul-le-mul_right, mul-lt-mul_of_pos_right}
 use native.Mathlib.Omega.{arith}
 use lib.Dec.{T, eqb, ltb, leb, ltb→lt, leb→le}
 use lib.IntN.{ℤ, pos, negsuc}
@@ -28,7 +28,7 @@ pub record Parts (m : ℕ) (e : ℤ) : Type 0 where
   pub under : m * 2 ^ shift < 2 ^ 2098
 
 pow_le : (a l : ℕ) → 2 ^ a ≤ 2 ^ l → a ≤ l
-pow_le a l h = less (λ (g : l < a). not_le_of_lt (pow-lt g) h)
+pow_le a l h = less (λ (g : l < a). not-le_of_lt (pow-lt g) h)
   where
     less : (l < a → ⊥) → a ≤ l
     less f = omega (arith, f)
@@ -42,8 +42,8 @@ shifted l (negsuc k) h =
 
 below : (a d l h q : ℕ) → 0 < d → 0 < l → a * l ≡ q * d → a < h * d → q < h * l
 below a d l h q p r e g =
-    lt_of_not_le (λ (z : h * l ≤ q).
-    not_le_of_lt (mul-lt-mul_of_pos_right g r)
+    lt_of_not-le (λ (z : h * l ≤ q).
+    not-le_of_lt (mul-lt-mul_of_pos_right g r)
     (le_trans (le_of_eq (mul_right_comm h d l)) (le_trans (mul-le-mul_right d z) (le_of_eq (sym e)))))
 
 pub parts : (s : Bool) (m : ℕ) (e : ℤ) → T (fits binary64 (fin s m e)) → Parts m e

@@ -4,7 +4,7 @@ use mathlib.Core.Path.{◌≡◌, refl, sym, ap, ◌∙◌, subst}
 use mathlib.Core.Bool.{Bool, true, false}
 use mathlib.Core.List.{List, [], ◌∷◌}
 use Prim.Native.Nat.{ℕ, suc, ◌*◌, ◌^◌, ◌≤◌, ◌<◌}
-use native.Mathlib.Nat.{le_trans, le_of_eq, mul-one, one-mul, mul-pos, mul_comm, mul_assoc, mul_right_comm, mul-le-mul_right, le_of_mul_le_mul_right, pow_suc}
+use native.Mathlib.Nat.{le_trans, le_of_eq, mul-one, one-mul, mul-pos, mul_comm, mul_assoc, mul_right_comm, mul-le-mul_right, le_of_mul-le-mul_right, pow-suc}
 use lib.Dec.{T, ltb}
 use lib.IntN.{ℤ}
 use lib.Pow.{pow_pos}
@@ -88,7 +88,7 @@ twice (fin s m e) h f = go (ltb (m * 2 ^ suc j) (2 ^ 2098)) refl
 
     exact : N * 2 ^ 1074 ≡ m * 2 ^ suc j * D
     exact =
-        units (m * up e) (2 ^ 1074) (m * 2 ^ j) (down e) p.exact ∙ ap (λ (x : ℕ). x * D) (mul_assoc m (2 ^ j) 2 ∙ ap (λ (x : ℕ). m * x) (sym (pow_suc 2 j)))
+        units (m * up e) (2 ^ 1074) (m * 2 ^ j) (down e) p.exact ∙ ap (λ (x : ℕ). x * D) (mul_assoc m (2 ^ j) 2 ∙ ap (λ (x : ℕ). m * x) (sym (pow-suc 2 j)))
 
     go : (b : Bool) → ltb (m * 2 ^ suc j) (2 ^ 2098) ≡ b → Scaled 1 (fin s m e) (round binary64 (unlike false s) N D)
     go true l =
@@ -97,7 +97,7 @@ twice (fin s m e) h f = go (ltb (m * 2 ^ suc j) (2 ^ 2098)) refl
         (round_exact binary64 (unlike false s) N D m (suc j) D_pos p.few (ltb-true (m * 2 ^ suc j) (2 ^ 2098) l) exact))
     go false l =
         let large : 2 ^ 1024 * 2 ^ 1074 ≤ m * 2 ^ suc j = ltb-false (m * 2 ^ suc j) (2 ^ 2098) l in
-        let over : 2 ^ 1024 * D ≤ N * 1 = le_of_mul_le_mul_right (cleared (2 ^ 1024) (2 ^ 1074) (m * 2 ^ suc j) D N large exact) (pow_pos 1074) in
+        let over : 2 ^ 1024 * D ≤ N * 1 = le_of_mul-le-mul_right (cleared (2 ^ 1024) (2 ^ 1074) (m * 2 ^ suc j) D N large exact) (pow_pos 1074) in
         let infinite : round binary64 false (2 ^ 1024) 1 ≡ inf false = unfold round in refl in
         absurd (beyond (round binary64 false N D) (sym (round_size N D (unlike false s)).lost ∙ f)
         (subst (λ (z : Float). T (le z (round binary64 false N D))) infinite (round_mono binary64 (2 ^ 1024) 1 N D (pow_pos 0) D_pos over)))

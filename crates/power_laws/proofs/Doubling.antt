@@ -4,7 +4,7 @@ use mathlib.Core.Path.{◌≡◌, refl, sym, ap, ◌∙◌, subst}
 use mathlib.Core.Bool.{Bool, true, false, not, ◌&&◌}
 use mathlib.Core.List.{List, [], ◌∷◌}
 use Prim.Native.Nat.{ℕ, zero, suc, ◌+◌, ◌*◌, ◌/◌, ◌%◌, ◌^◌, ◌≤◌, ◌<◌}
-use native.Mathlib.Nat.{pow_suc}
+use native.Mathlib.Nat.{pow-suc}
 use native.Mathlib.Omega.{arith}
 use lib.IntN.{pos}
 use lib.Ieee.{Float, nan, inf, fin, binary64, size, mul}
@@ -100,7 +100,7 @@ scaled_bits (suc zero) n i j r x r' x' l u v p q =
     subst (λ (k : ℕ). Scaled k (times (odd n) r x) (times (odd n) r' x')) (last_count (odd n) n i j refl (omega arith))
     (bit_scaled (odd n) i j r x r' x' u v p q)
 scaled_bits (suc (suc k)) n i j r x r' x' l u v p q =
-    let half : n / 2 < 2 ^ suc k = let z : 2 ^ suc (suc k) ≡ 2 ^ suc k * 2 = pow_suc 2 (suc k) in omega arith in
+    let half : n / 2 < 2 ^ suc k = let z : 2 ^ suc (suc k) ≡ 2 ^ suc k * 2 = pow-suc 2 (suc k) in omega arith in
     let rest = every_product in_range (times (odd n) r x) (mul binary64 x x) (lowest (suc k) (n / 2)) in
     let rest' = every_product kept (times (odd n) r' x') (mul binary64 x' x') (lowest (suc k) (n / 2)) in
     let above = right (of_bit in_range (odd n) r x) (in_range x x && rest) p in

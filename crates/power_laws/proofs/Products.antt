@@ -6,7 +6,7 @@ use mathlib.Core.Logic.{◌⊎◌, inl, inr}
 use mathlib.Core.Bool.{Bool, true, false, not, ◌&&◌}
 use mathlib.Core.List.{List, [], ◌∷◌}
 use Prim.Native.Nat.{ℕ, zero, suc, ◌*◌, ◌/◌, ◌%◌, ◌^◌, ◌≤◌, ◌<◌}
-use native.Mathlib.Nat.{le_trans, le_of_eq, le_of_lt, mul-one, one-mul, mul-pos, mul_comm, mul_assoc, mul-le-mul, mul-le-mul_right, mul-le-mul_left, pow_suc}
+use native.Mathlib.Nat.{le_trans, le_of_eq, le_of_lt, mul-one, one-mul, mul-pos, mul_comm, mul_assoc, mul-le-mul, mul-le-mul_right, mul-le-mul_left, pow-suc}
 use native.Mathlib.Omega.{arith}
 use lib.Dec.{T, leb}
 use lib.IntN.{ℤ, pos}
@@ -121,8 +121,8 @@ pub top : (k n : ℕ) → 2 ^ k ≤ n → n < 2 ^ suc k → T (highest (odd n) (
 unfolding highest lowest
 top zero n l h = subst T (sym (eq-eqb (n % 2) 1 (omega arith))) tt
 top (suc k) n l h =
-    let p : 2 ^ suc k ≡ 2 ^ k * 2 = pow_suc 2 k in
-    let q : 2 ^ suc (suc k) ≡ 2 ^ suc k * 2 = pow_suc 2 (suc k) in
+    let p : 2 ^ suc k ≡ 2 ^ k * 2 = pow-suc 2 k in
+    let q : 2 ^ suc (suc k) ≡ 2 ^ suc k * 2 = pow-suc 2 (suc k) in
     top k (n / 2) (omega arith) (omega arith)
 
 both : (p q : Bool) → p ≡ true → q ≡ true → (p && q) ≡ true

@@ -7,7 +7,7 @@ use mathlib.Core.Logic.{◌⊎◌, inl, inr}
 use mathlib.Core.Bool.{Bool, true, false, not, ◌&&◌}
 use mathlib.Core.List.{List, [], ◌∷◌}
 use Prim.Native.Nat.{ℕ, zero, suc, ◌+◌, ◌-◌, ◌*◌, ◌^◌, ◌≤◌, ◌<◌}
-use native.Mathlib.Nat.{pow_suc, le_of_suc-le-suc, le_trans, le_of_eq, le_of_lt, lt_of_not_le, not_le_of_lt, mul-one, one-mul, mul-pos, mul_comm, mul_assoc, mul_right_comm, mul-mul-mul_comm, mul-le-mul, mul-le-mul_right, eq_of_mul-eq-mul_right}
+use native.Mathlib.Nat.{pow-suc, le_of_suc-le-suc, le_trans, le_of_eq, le_of_lt, lt_of_not-le, not-le_of_lt, mul-one, one-mul, mul-pos, mul_comm, mul_assoc, mul_right_comm, mul-mul-mul_comm, mul-le-mul, mul-le-mul_right, eq_of_mul-eq-mul_right}
 use native.Mathlib.Omega.{arith}
 use lib.Dec.{T, eqb, leb}
 use lib.IntN.{ℤ, pos, negsuc}
@@ -224,19 +224,19 @@ multiple w q m (negsuc j) f l h = go (leb (suc j) w) refl
         )
     go false c =
         let far : suc w ≤ suc j = leb-false (suc j) w c in
-        absurd (not_le_of_lt h
+        absurd (not-le_of_lt h
         (le_trans (mul-le-mul_right (2 ^ w) (le_trans (le_of_eq (mul-one m)) (le_of_lt f)))
         (le_trans (le_of_eq (halves 52 w))
         (mul-le-mul (le_trans l (le_of_eq (sym (mul-one q)))) (pow_mono far)))))
       where
         halves : (p w : ℕ) → 2 ^ suc p * 2 ^ w ≡ 2 ^ p * 2 ^ suc w
-        halves p w = ap (λ (x : ℕ). x * 2 ^ w) (pow_suc 2 p) ∙ mul_assoc (2 ^ p) 2 (2 ^ w) ∙ ap (λ (x : ℕ). 2 ^ p * x) (mul_comm 2 (2 ^ w) ∙ sym (pow_suc 2 w))
+        halves p w = ap (λ (x : ℕ). x * 2 ^ w) (pow-suc 2 p) ∙ mul_assoc (2 ^ p) 2 (2 ^ w) ∙ ap (λ (x : ℕ). 2 ^ p * x) (mul_comm 2 (2 ^ w) ∙ sym (pow-suc 2 w))
 
 -- so it is one of those between the two
 counted : (q k h d : ℕ) → 0 < d → q * 1 * d < k * d → k * d < h * 1 * d → (q < k) × (k < h)
 counted q k h d p u v = (
-  lt_of_not_le (λ (g : k ≤ q). not_le_of_lt u (mul-le-mul_right d (le_trans g (le_of_eq (sym (mul-one q)))))),
-  lt_of_not_le (λ (g : h ≤ k). not_le_of_lt v (mul-le-mul_right d (le_trans (le_of_eq (mul-one h)) g))),
+  lt_of_not-le (λ (g : k ≤ q). not-le_of_lt u (mul-le-mul_right d (le_trans g (le_of_eq (sym (mul-one q)))))),
+  lt_of_not-le (λ (g : h ≤ k). not-le_of_lt v (mul-le-mul_right d (le_trans (le_of_eq (mul-one h)) g))),
 )
 
 -- two f64s of one sign and size are one

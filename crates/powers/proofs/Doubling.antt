@@ -4,7 +4,7 @@ use mathlib.Core.Path.{◌≡◌, refl, sym, ap, ◌∙◌, subst}
 use mathlib.Core.Bool.{Bool, true, false}
 use mathlib.Core.List.{List}
 use Prim.Native.Nat.{ℕ, zero, suc, ◌+◌, ◌-◌, ◌*◌, ◌^◌, ◌/◌, ◌%◌, ◌<◌, ◌≤◌}
-use native.Mathlib.Nat.{pow_suc}
+use native.Mathlib.Nat.{pow-suc}
 use native.Mathlib.Omega.{arith}
 use lib.Dec.{T, eqb, leb, ltb, leb→le, le→leb}
 use lib.IntN.{ℤ, pos, negsuc}
@@ -46,7 +46,7 @@ highest_last zero k l r a n s =
     first (suc k) = refl
 highest_last (suc h) zero l r a n s = absurd (omega arith)
 highest_last (suc h) (suc k) l r a n s =
-    let p : 2 ^ suc h ≡ 2 ^ h * 2 = pow_suc 2 h in
+    let p : 2 ^ suc h ≡ 2 ^ h * 2 = pow-suc 2 h in
     let half : (n + 2 ^ suc h) / 2 ≡ n / 2 + 2 ^ h = omega arith in
     let same : (n + 2 ^ suc h) % 2 ≡ n % 2 = omega arith in
     let odd-same : odd (n + 2 ^ suc h) ≡ odd n = ap (λ (m : ℕ). eqb m 1) same in

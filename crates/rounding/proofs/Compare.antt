@@ -3,7 +3,7 @@
 use mathlib.Core.Path.{◌≡◌, refl, sym, ap, ◌∙◌}
 use mathlib.Core.Logic.{◌⊎◌, inl, inr}
 use Prim.Native.Nat.{ℕ, ◌+◌, ◌*◌, ◌≤◌, ◌<◌, zero-le}
-use native.Mathlib.Nat.{lt_of_le_of_lt, le_of_eq, le_of_lt, mul-pos, mul-le-mul_right, mul-lt-mul_of_pos_right, le_of_mul_le_mul_right, lt_of_mul-lt-mul_right}
+use native.Mathlib.Nat.{lt_of_le_of_lt, le_of_eq, le_of_lt, mul-pos, mul-le-mul_right, mul-lt-mul_of_pos_right, le_of_mul-le-mul_right, lt_of_mul-lt-mul_right}
 use native.Mathlib.Omega.{arith}
 use mathlib.Core.Bool.{Bool, true, false, not, ◌&&◌, ◌||◌, true≢false}
 use lib.IntN.{ℤ}
@@ -185,7 +185,7 @@ Side false u z n d = Under z u n d
 -- fractions on a known side of each other
 at_most_by_side : (u z : Fraction) (n d : ℕ) → 0 < n → 0 < d → 0 < u.scale → 0 < z.scale → (σ : Bool) → Side σ u z n d → at_most u z ≡ σ
 at_most_by_side u z n d N D X Z true g =
-    is_true (at_most u z) (le→leb (side u z) (side z u) (le_of_mul_le_mul_right (drop (side u z * d) (side z u * d) (n * (u.scale * z.scale)) g) D))
+    is_true (at_most u z) (le→leb (side u z) (side z u) (le_of_mul-le-mul_right (drop (side u z * d) (side z u * d) (n * (u.scale * z.scale)) g) D))
   where
     drop : (a b k : ℕ) → a + k ≤ b → a ≤ b
     drop a b k l = omega arith

@@ -3,7 +3,7 @@
 use mathlib.Core.Path.{◌≡◌, sym, subst}
 use mathlib.Core.Logic.{◌⊎◌, inl, inr}
 use Prim.Native.Nat.{ℕ, ◌+◌, ◌-◌, ◌*◌, ◌/◌, ◌%◌, ◌^◌, ◌≤◌, ◌<◌}
-use native.Mathlib.Nat.{le_trans, mul-le-mul_right, mul-le-mul, le_of_mul_le_mul_right, mod-lt, div-add-mod'}
+use native.Mathlib.Nat.{le_trans, mul-le-mul_right, mul-le-mul, le_of_mul-le-mul_right, mod-lt, div-add-mod'}
 use native.Mathlib.Omega.{arith}
 use mathlib.Core.Bool.{Bool, true, false, not}
 use lib.Dec.{T, leb, leb→le, nleb→lt}
@@ -140,7 +140,7 @@ pub close_trans : (z y c d a b e e' : ℕ) → Close z y c d e → Close c d a b
 close_trans z y c d a b e e' h k = omega arith
 
 pub close_cancel : (U z y a b e : ℕ) → 0 < U → Close (z * U) (y * U) (a * U) (b * U) (e * U) → Close z y a b e
-close_cancel U z y a b e P h = (le_of_mul_le_mul_right (lo h.0) P, le_of_mul_le_mul_right (hi h.1) P)
+close_cancel U z y a b e P h = (le_of_mul-le-mul_right (lo h.0) P, le_of_mul-le-mul_right (hi h.1) P)
   where
     lo : z * U + b * U ≤ a * U + y * U + e * U → (z + b) * U ≤ (a + y + e) * U
     lo g = omega arith

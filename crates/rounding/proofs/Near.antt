@@ -2,7 +2,7 @@
 -- fraction. Assumes nothing.
 use mathlib.Core.Path.{◌≡◌, sym, ap, subst}
 use Prim.Native.Nat.{ℕ, ◌+◌, ◌*◌, ◌^◌, ◌≤◌, ◌<◌}
-use native.Mathlib.Nat.{mul-le-mul_right, le_of_mul_le_mul_right}
+use native.Mathlib.Nat.{mul-le-mul_right, le_of_mul-le-mul_right}
 use native.Mathlib.Omega.{arith}
 use mathlib.Core.Bool.{Bool, true, false}
 use lib.Pow.{pow_pos}
@@ -24,7 +24,7 @@ same_arith p n q a b e A B S U O g h c =
     let g' : a * S * U ≡ A * q * U = ap (λ (z : ℕ). z * U) g in
     let h' : b * S * U ≡ B * q * U = ap (λ (z : ℕ). z * U) h in
     let d = close_scale S (p * q) (n * q) (a * U) (b * U) (e * q) c in
-    (le_of_mul_le_mul_right (lo g' h' d.0) O, le_of_mul_le_mul_right (hi g' h' d.1) O)
+    (le_of_mul-le-mul_right (lo g' h' d.0) O, le_of_mul-le-mul_right (hi g' h' d.1) O)
   where
     lo : a * S * U ≡ A * q * U → b * S * U ≡ B * q * U → p * q * S + b * U * S ≤ a * U * S + n * q * S + e * q * S
         → (p * S + B * U) * q ≤ (A * U + n * S + e * S) * q
@@ -62,7 +62,7 @@ units_arith p n x z e A B S c u h k g =
 
 -- from e units of 1 / u to a tolerance N / D
 to_tolerance : (X Y Z e u N D : ℕ) → 0 < u → X * u ≤ Y * u + e * Z → e * D ≤ N * u → X * D ≤ Y * D + N * Z
-to_tolerance X Y Z e u N D O h l = le_of_mul_le_mul_right (go (mul-le-mul_right D h) (mul-le-mul_right Z l)) O
+to_tolerance X Y Z e u N D O h l = le_of_mul-le-mul_right (go (mul-le-mul_right D h) (mul-le-mul_right Z l)) O
   where
     go : X * u * D ≤ (Y * u + e * Z) * D → e * D * Z ≤ N * u * Z → X * D * u ≤ (Y * D + N * Z) * u
     go g m = omega arith
@@ -95,7 +95,7 @@ held_near {f} {x} {y} {M} {e} N D h l = go x h.sign h.size h.value h.near
 
 -- the same tolerance in coarser units
 coarser_arith : (X Y W k d D : ℕ) → 0 < d → k * D ≤ d → X * d ≤ Y * d + k * W → X * D ≤ Y * D + 1 * W
-coarser_arith X Y W k d D P l h = le_of_mul_le_mul_right (go (mul-le-mul_right D h) (mul-le-mul_right W l)) P
+coarser_arith X Y W k d D P l h = le_of_mul-le-mul_right (go (mul-le-mul_right D h) (mul-le-mul_right W l)) P
   where
     go : X * d * D ≤ (Y * d + k * W) * D → k * D * W ≤ d * W → X * D * d ≤ (Y * D + 1 * W) * d
     go a b = omega (arith, a, b)

@@ -1,7 +1,7 @@
 -- A rounded sum and a rounded product, with signs. A finite value is ±v units of 2 ^ -low; (a, b) stands for the whole number a - b. Assumes nothing.
 use mathlib.Core.Path.{◌≡◌, refl, sym, ap, subst, subst₂}
 use Prim.Native.Nat.{ℕ, ◌+◌, ◌-◌, ◌*◌, ◌^◌, ◌≤◌, ◌<◌}
-use native.Mathlib.Nat.{le_of_lt, mul-le-mul_right, mul-pos, le_of_mul_le_mul_right}
+use native.Mathlib.Nat.{le_of_lt, mul-le-mul_right, mul-pos, le_of_mul-le-mul_right}
 use native.Mathlib.Omega.{arith}
 use mathlib.Core.Bool.{Bool, true, false, not, ◌&&◌, cond}
 use lib.IntN.{ℤ}
@@ -61,8 +61,8 @@ diff_near f s d c B v w C e b o =
       size = r.size;
       value = r.value;
       small = r.small;
-      above = le_of_mul_le_mul_right (up1 r.size (d * 2 ^ low f) (slack f B) r.above e) C;
-      below = le_of_mul_le_mul_right (up2 r.size (d * 2 ^ low f) (slack f B) r.below e) C;
+      above = le_of_mul-le-mul_right (up1 r.size (d * 2 ^ low f) (slack f B) r.above e) C;
+      below = le_of_mul-le-mul_right (up2 r.size (d * 2 ^ low f) (slack f B) r.below e) C;
     }
   where
     fits : (n : ℕ) → w ≤ B → n + v * c ≡ w * c → n ≤ B * c
@@ -136,10 +136,10 @@ sum_near f true a false b c v w B C p q l o = go (ltb a b) (ltb→lt a b) (nltb�
     fit3 z r m n h k =
         let i : a * 2 ^ low f ≤ b * 2 ^ low f = mul-le-mul_right (2 ^ low f) n in
         let j : v * c ≤ w * c = omega arith in
-        let x : v ≤ w = le_of_mul_le_mul_right j C in
+        let x : v ≤ w = le_of_mul-le-mul_right j C in
         let i' : b * 2 ^ low f ≤ a * 2 ^ low f = mul-le-mul_right (2 ^ low f) m in
         let j' : w * c ≤ v * c = omega arith in
-        let x' : w ≤ v = le_of_mul_le_mul_right j' C in
+        let x' : w ≤ v = le_of_mul-le-mul_right j' C in
         omega arith
 
     inner : (k : Bool) → b ≤ a → (T (not k) → a ≤ b) → Exact+ f (round f (true && k) (a - b) c) B true v false w
@@ -203,19 +203,19 @@ product X Y dx dy v w U p q =
     omega arith
 
 mul_bound : (n c U P B : ℕ) → 0 < U → n * U * U ≡ P * c → P ≤ B * U → n * U ≤ B * c
-mul_bound n c U P B Q e b = le_of_mul_le_mul_right (go (mul-le-mul_right c b)) Q
+mul_bound n c U P B Q e b = le_of_mul-le-mul_right (go (mul-le-mul_right c b)) Q
   where
     go : P * c ≤ B * U * c → n * U * U ≤ B * c * U
     go h = omega arith
 
 mul_above : (z n c U P r : ℕ) → 0 < c → n * U * U ≡ P * c → z * c ≤ n * U + r * c → z * U ≤ P + r * U
-mul_above z n c U P r C e h = le_of_mul_le_mul_right (go (mul-le-mul_right U h)) C
+mul_above z n c U P r C e h = le_of_mul-le-mul_right (go (mul-le-mul_right U h)) C
   where
     go : z * c * U ≤ (n * U + r * c) * U → z * U * c ≤ (P + r * U) * c
     go h = omega arith
 
 mul_below : (z n c U P r : ℕ) → 0 < c → n * U * U ≡ P * c → n * U ≤ z * c + r * c → P ≤ z * U + r * U
-mul_below z n c U P r C e h = le_of_mul_le_mul_right (go (mul-le-mul_right U h)) C
+mul_below z n c U P r C e h = le_of_mul-le-mul_right (go (mul-le-mul_right U h)) C
   where
     go : n * U * U ≤ (z * c + r * c) * U → P * c ≤ (z * U + r * U) * c
     go h = omega arith

@@ -2,7 +2,7 @@
 -- Assumes nothing.
 use mathlib.Core.Path.{◌≡◌, refl, sym, ap, ap₂, ◌∙◌, subst}
 use Prim.Native.Nat.{ℕ, zero, suc, ◌+◌, ◌*◌, ◌/◌, ◌%◌, ◌^◌, ◌<◌}
-use native.Mathlib.Nat.{mul-one, one-mul, mul_assoc, add-zero, zero-mul, mul_zero, mul-pos, pow-zero, pow_suc}
+use native.Mathlib.Nat.{mul-one, one-mul, mul_assoc, add-zero, zero-mul, mul-zero, mul-pos, pow-zero, pow-suc}
 use native.Mathlib.Omega.{arith}
 use mathlib.Core.Bool.{Bool, true, false}
 use mathlib.Core.List.{List, [], ◌∷◌, map}
@@ -65,7 +65,7 @@ power_float x a n =
 square_pow : (A k : ℕ) → (A * A) ^ k ≡ A ^ k * A ^ k
 square_pow A zero = pow-zero (A * A) ∙ sym (ap₂ (λ (x y : ℕ). x * y) (pow-zero A) (pow-zero A))
 square_pow A (suc k) =
-    pow_suc (A * A) k ∙ ap (λ (x : ℕ). x * (A * A)) (square_pow A k) ∙ swap (A ^ k) ∙ sym (ap₂ (λ (x y : ℕ). x * y) (pow_suc A k) (pow_suc A k))
+    pow-suc (A * A) k ∙ ap (λ (x : ℕ). x * (A * A)) (square_pow A k) ∙ swap (A ^ k) ∙ sym (ap₂ (λ (x y : ℕ). x * y) (pow-suc A k) (pow-suc A k))
   where
     swap : (x : ℕ) → x * x * (A * A) ≡ x * A * (x * A)
     swap x = omega arith
@@ -81,7 +81,7 @@ half_pow A n =
 
 ratio_times : (a q a' q' : ℕ) → fractions.times (ratio a q) (ratio a' q') ≡ ratio (a * a') (q * q')
 ratio_times a q a' q' =
-    ap₂ (λ (x y : ℕ). record { over = x; under = y; scale = q * q' }) (add-zero (a * a')) (ap₂ (λ (x y : ℕ). x + y) (mul_zero a) (zero-mul a'))
+    ap₂ (λ (x y : ℕ). record { over = x; under = y; scale = q * q' }) (add-zero (a * a')) (ap₂ (λ (x y : ℕ). x + y) (mul-zero a) (zero-mul a'))
 
 module _ (depth : ℕ) (y : ℕ → Fraction) where
   product_exact : (s t : Ex) {a q a' q' : ℕ} → exact depth y s ≡ ratio a q → exact depth y t ≡ ratio a' q'
@@ -98,7 +98,7 @@ module _ (depth : ℕ) (y : ℕ → Fraction) where
   times_exact r a R S A B (suc zero) l h k = product_exact r a h k ∙ sym (ap₂ ratio (once R A) (once S B))
     where
       once : (R A : ℕ) → R * A ^ 1 ≡ R * A
-      once R A = ap (λ (x : ℕ). R * x) (pow_suc A 0 ∙ ap (λ (x : ℕ). x * A) (pow-zero A) ∙ one-mul A)
+      once R A = ap (λ (x : ℕ). R * x) (pow-suc A 0 ∙ ap (λ (x : ℕ). x * A) (pow-zero A) ∙ one-mul A)
   times_exact r a R S A B (suc (suc m)) l h k = absurd (omega arith)
 
   higher_exact : (r a : Ex) (k : ℕ) (none : Bool) (R S A B h : ℕ) → eqb h 0 ≡ none → h < 2 ^ k → exact depth y r ≡ ratio R S → exact depth y a ≡ ratio A B
@@ -128,7 +128,7 @@ module _ (depth : ℕ) (y : ℕ → Fraction) where
       below_two n = omega arith
 
       smaller : (n d : ℕ) → n < 2 ^ suc d → n / 2 < 2 ^ d
-      smaller n d h = omega (arith, pow_suc 2 d)
+      smaller n d h = omega (arith, pow-suc 2 d)
 
       turn : (R A : ℕ) → R * (A * A) ^ (h % 2) * (A * A * (A * A)) ^ (h / 2) ≡ R * (A * A) ^ h
       turn R A = mul_assoc R ((A * A) ^ (h % 2)) ((A * A * (A * A)) ^ (h / 2)) ∙ ap (λ (x : ℕ). R * x) (sym (half_pow (A * A) h))
@@ -144,7 +144,7 @@ module _ (depth : ℕ) (y : ℕ → Fraction) where
       below_two n = omega arith
 
       half : (n d : ℕ) → n < 2 ^ suc d → n / 2 < 2 ^ d
-      half n d h = omega (arith, pow_suc 2 d)
+      half n d h = omega (arith, pow-suc 2 d)
 
       turn : (A : ℕ) → 1 * A ^ (n % 2) * (A * A) ^ (n / 2) ≡ A ^ n
       turn A = ap (λ (x : ℕ). x * (A * A) ^ (n / 2)) (one-mul (A ^ (n % 2))) ∙ sym (half_pow A n)

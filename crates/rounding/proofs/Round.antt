@@ -2,7 +2,7 @@
 -- number `grid`: they differ by at most n / den / 2 ^ prec + 1 / 2. Assumes nothing.
 use mathlib.Core.Path.{◌≡◌, refl, sym, ap, subst}
 use Prim.Native.Nat.{ℕ, zero, suc, ◌+◌, ◌-◌, ◌*◌, ◌/◌, ◌%◌, ◌^◌, ◌≤◌, ◌<◌, compare, Ordering}
-use native.Mathlib.Nat.{mul-le-mul_right, mod-lt, div-add-mod', le-div_iff_mul-le, mul-pos, le_of_mul_le_mul_right, lt_of_le_of_lt}
+use native.Mathlib.Nat.{mul-le-mul_right, mod-lt, div-add-mod', le-div_iff_mul-le, mul-pos, le_of_mul-le-mul_right, lt_of_le_of_lt}
 use native.Mathlib.Omega.{arith}
 use mathlib.Core.Bool.{Bool, not}
 use lib.Dec.{T, is_le, compare_is_eq, eqb, leb→le, nleb→lt, eqb→eq, eqb_refl}
@@ -106,7 +106,7 @@ cancel g c n W H B r P b k h l =
     let m : (B + H) * c ≤ r * W * c = mul-le-mul_right c k in
     let x : g * c * W ≤ (n + r * c) * W = omega arith in
     let y : n * W ≤ (g * c + r * c) * W = omega arith in
-    (le_of_mul_le_mul_right x P, le_of_mul_le_mul_right y P)
+    (le_of_mul-le-mul_right x P, le_of_mul-le-mul_right y P)
 
 grid_within : (f : Format) (a c B : ℕ) → 0 < c → a * 2 ^ low f ≤ B * c
     → (grid f a c * c ≤ a * 2 ^ low f + slack f B * c) × (a * 2 ^ low f ≤ grid f a c * c + slack f B * c)
@@ -116,7 +116,7 @@ grid_within f a c B C b =
     g.0 g.1
 
 under : (g c n B r : ℕ) → 0 < c → n ≤ B * c → g * c ≤ n + r * c → g ≤ B + r
-under g c n B r C b h = le_of_mul_le_mul_right (omega arith) C
+under g c n B r C b h = le_of_mul-le-mul_right (omega arith) C
 
 round_val : (f : Format) (s : Bool) (a c : ℕ) → grid f a c < overflow f → HasValue (round f s a c) s (grid f a c) (2 ^ low f)
 round_val f s a c h =

@@ -2,8 +2,8 @@
 -- Assumes nothing.
 use mathlib.Core.Path.{◌≡◌, refl, sym, ap, ◌∙◌, subst}
 use Prim.Native.Nat.{ℕ, zero, suc, ◌+◌, ◌-◌, ◌*◌, ◌/◌, ◌%◌, ◌^◌, ◌≤◌, ◌<◌}
-use native.Mathlib.Nat.{le_trans, le_of_eq, not_le_of_lt, lt_of_not_le, mul-one, mul_assoc, mul_right_comm, mul-le-mul_right, mul-le-mul_left}
-use native.Mathlib.Nat.{le_of_mul_le_mul_right, div-one, div-mul-le_self, mul-div_cancel}
+use native.Mathlib.Nat.{le_trans, le_of_eq, not-le_of_lt, lt_of_not-le, mul-one, mul_assoc, mul_right_comm, mul-le-mul_right, mul-le-mul_left}
+use native.Mathlib.Nat.{le_of_mul-le-mul_right, div-one, div-mul-le_self, mul-div_cancel}
 use native.Mathlib.Omega.{arith}
 use mathlib.Core.Bool.{Bool, true, false, ◌&&◌}
 use lib.IntN.{ℤ, pos, negsuc}
@@ -40,7 +40,7 @@ shift m n d h = ap (λ (x : ℕ). m * 1 * 2 ^ x) (sym (back n d h)) ∙ ap (λ (
     tidy x y = omega arith
 
 low_enough : (j n d m : ℕ) → j + n ≡ 52 → 2 ^ j * 2 ^ d ≤ m → m < 2 ^ 53 → d ≤ n
-low_enough j n d m e l h = go (lt_of_not_le (λ (g : 53 ≤ j + d). not_le_of_lt h (le_trans (pow_mono g) (le_trans (le_of_eq (pow-add 2 j d)) l))))
+low_enough j n d m e l h = go (lt_of_not-le (λ (g : 53 ≤ j + d). not-le_of_lt h (le_trans (pow_mono g) (le_trans (le_of_eq (pow-add 2 j d)) l))))
   where
     go : j + d < 53 → d ≤ n
     go g = omega arith
@@ -96,13 +96,13 @@ known_between x P Q k a b d e O D f h l m =
     more q = le_trans (le_of_eq (sym (mul-one P))) (mul-le-mul_left P q)
 
     least : (U : ℕ) → a * U / d * Q + 0 * U ≤ P * U
-    least U = le_of_mul_le_mul_right (go (a * U / d) (mul-le-mul_right Q (div-mul-le_self (a * U) d)) (mul-le-mul_right U l)) D
+    least U = le_of_mul-le-mul_right (go (a * U / d) (mul-le-mul_right Q (div-mul-le_self (a * U) d)) (mul-le-mul_right U l)) D
       where
         go : (c : ℕ) → c * d * Q ≤ a * U * Q → a * Q * U ≤ P * d * U → (c * Q + 0 * U) * d ≤ P * U * d
         go c y z = omega arith
 
     most : (U : ℕ) → P * U ≤ (b * U / d + 1) * Q + 0 * U
-    most U = le_of_mul_le_mul_right (go (b * U / d) (mul-le-mul_right Q (over_div (b * U) d D)) (mul-le-mul_right U m)) D
+    most U = le_of_mul-le-mul_right (go (b * U / d) (mul-le-mul_right Q (over_div (b * U) d D)) (mul-le-mul_right U m)) D
       where
         go : (c : ℕ) → b * U * Q ≤ (c + 1) * d * Q → P * d * U ≤ b * Q * U → P * U * d ≤ ((c + 1) * Q + 0 * U) * d
         go c y z = omega arith

@@ -1,7 +1,7 @@
 -- `inverses::exponent` meets its contract: k - 1074 is a whole number that an f64 holds. Assumes nothing.
 use Prim.Native.Nat.{ℕ, suc, ◌-◌, ◌^◌, ◌≤◌, ◌<◌}
 use mathlib.Core.Path.{◌≡◌}
-use native.Mathlib.Nat.{lt_of_not_le}
+use native.Mathlib.Nat.{lt_of_not-le}
 use native.Mathlib.Decide.{dec_le}
 use native.Mathlib.Omega.{arith}
 use borrow.Author.Tests.{lt-ltb, le-ltb, le-leb, lt-leb}
@@ -31,7 +31,7 @@ small k h = go (dec_le 1074 k)
           held = rw (le-leb 1074 k l) (le→leb (k - 1074) (2 ^ 53) (omega arith));
         }
     go (no n) =
-        let l : k < 1074 = lt_of_not_le n in
+        let l : k < 1074 = lt_of_not-le n in
         record {
           is = rw (to_z_pos w64 k (omega arith), lt-ltb k 1074 l, lt-leb 1074 k l);
           fits = rw (lt-leb 1074 k l) (record { sfits = omega arith });
