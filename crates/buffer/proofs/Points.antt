@@ -4,7 +4,6 @@ use mathlib.Core.List.{List, [], ◌∷◌, ◌++◌, map}
 use Prim.Native.Nat.{ℕ}
 use lib.IntN.{pos, negsuc}
 use lib.ListN.{replicate}
-use lib.Seq.{sets}
 use lib.Ieee.{nan, binary64, of_bits, of_fields, to_bits}
 use contract.Lifetimes.{Lfts}
 use denote.Triple.Clauses.{AtExit}
