@@ -1,4 +1,6 @@
 // The letters of region 3 as a closed kind, the answer of a choice, and the byte of each.
+#![tactic(auto)]
+
 ghost use Rattle.std.specs.Prelude.{◌≡◌};
 ghost use Rattle.common.specs.Outcome.{number_in};
 ghost use Rattle.subregion.specs.Letter.{ascii_of, of_byte, paper_letter, byte_in};
