@@ -1,5 +1,7 @@
 // What the entry points share: the property record with its answer and where a volume comes from (`records`), and a p, T or d of the state,
 // tested where it comes out (`state`).
+#![tactic(auto)]
+
 use common::Verdict;
 use subregion::Letter;
 

@@ -5,7 +5,6 @@ use mathlib.Core.Path.{◌≡◌, refl, sym, ap, subst, ◌∙◌}
 use mathlib.Core.Bool.{true, false}
 use lib.Dec.{T}
 use lib.Ieee.{Float, nan, inf, fin, binary64, div, of_bits, round, le, lt, eq}
-use borrow.Author.Rules.{rules}
 use Rattle.common.specs.Outcome.{Outcome, value, check, then}
 use Rattle.common.specs.Decimal.{decimal, whole, scaled}
 use Rattle.common.specs.Constant.{d_range_from, d_range_to}
@@ -13,7 +12,7 @@ use Rattle.common.specs.Range.{within}
 use Rattle.common.proofs.Laws.{check_kept}
 use Rattle.common.proofs.Ranges.{finite_within}
 use Rattle.record.specs.State.{tested, density_of}
-use Rattle.record.proofs.state.density as own
+use Rattle.record.proofs.state.density.Goals as goal
 
 -- a density in its range is that of its volume
 in_range_lem : (v : Float) → within d_range_from d_range_to (div binary64 (whole 1) v) ≡ true → value (div binary64 (whole 1) v) ≡ density_of (check v)
@@ -23,16 +22,13 @@ in_range_lem (inf true) e = absurd (subst T (sym e) tt)
 in_range_lem (inf false) e = absurd (subst T (sym e) tt)
 in_range_lem (fin s m x) e = rw (check_kept (div binary64 (whole 1) (fin s m x)) (finite_within d_range_from d_range_to (div binary64 (whole 1) (fin s m x)) tt tt e), e)
 
-returns : own.Tie.Need-returns
+pub returns-then-ranged : goal.returns-then-ranged
 unfolding of_bits decimal whole scaled round
-returns c = in_range_lem c.before.before.before.args.v.0 (sym c.before.ranged.ensures ∙ c.if1.true)
+returns-then-ranged c = in_range_lem c.args.v.0 (sym c.ranged.ensures ∙ c.if-ranged.true)
 
-returns-2 : own.Tie.Need-returns-2
+pub returns : goal.returns
 unfolding of_bits decimal whole scaled
-returns-2 c =
-    let v = c.before.before.before.before.before.args.v.0 in
+returns c =
+    let v = c.args.v.0 in
     let d = raw_over_lem (raw_value (whole 1) refl) (raw_check v) in
-    c.settle-in.ensures ∙ ap (λ (o : Outcome Float). then o (tested d_range_from d_range_to)) (ap check c.before.over.ensures ∙ sym d.is)
-
-pub density_spec : {M : Type 1} → own.Statement.statement M
-density_spec = own.Tie.close (own.Tie.spec (λ c κs. search rules) returns (λ c κs. search rules) (λ c κs. search rules) returns-2)
+    c.settle_in.ensures ∙ ap (λ (o : Outcome Float). then o (tested d_range_from d_range_to)) (ap check c.over.ensures ∙ sym d.is)
