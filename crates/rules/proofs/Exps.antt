@@ -3,7 +3,7 @@
 use mathlib.Core.Path.{◌≡◌, refl, sym, ap, ◌∙◌, subst}
 use mathlib.Core.Logic.{◌⊎◌, inl, inr}
 use Prim.Native.Nat.{ℕ, zero, suc, ◌+◌, ◌-◌, ◌*◌, ◌/◌, ◌%◌, ◌^◌, ◌≤◌, ◌<◌, compare, Ordering}
-use native.Mathlib.Nat.{le_trans, le_of_eq, lt_of_lt_of_le, lt_of_le_of_lt, lt_of_not_le, not_le_of_lt, zero-lt-suc, zero-mul, one-mul, mul-one, mul-pos, mul_comm, mul_assoc, mul_right_comm, mul-le-mul_left, mul-le-mul_right, mul-lt-mul_of_pos_right, le_of_mul_le_mul_right, lt_of_mul-lt-mul_right, eq_of_mul-eq-mul_right, div-mul-le_self, div-lt_iff_lt-mul, mod-eq_of_lt}
+use native.Mathlib.Nat.{le_trans, le_of_eq, lt_of_lt_of_le, lt_of_le_of_lt, lt_of_not-le, not-le_of_lt, zero-lt-suc, zero-mul, one-mul, mul-one, mul-pos, mul_comm, mul_assoc, mul_right_comm, mul-le-mul_left, mul-le-mul_right, mul-lt-mul_of_pos_right, le_of_mul-le-mul_right, lt_of_mul-lt-mul_right, eq_of_mul-eq-mul_right, div-mul-le_self, div-lt_iff_lt-mul, mod-eq_of_lt}
 use native.Mathlib.Omega.{arith}
 use mathlib.Core.Bool.{Bool, true, false, not, ◌&&◌, cond}
 use lib.Dec.{T, leb, ltb, leb→le, le→leb, lt→ltb, lit≤, lit<}
@@ -128,9 +128,9 @@ module _ (m : ℕ) (e : ℤ) (f : T (fits binary64 (fin false m e))) where
 
     bound : (k r : ℕ) → 2 ^ 52 ≤ r → m * up e * 2 ^ 1074 ≡ r * 2 ^ k * down e → k < 1032
     bound k r g h =
-        let a : r * 2 ^ k ≤ 1010 * 2 ^ 1074 = le_of_mul_le_mul_right {n = 1010 * 2 ^ 1074} (le_trans (le_of_eq (sym h)) (le_trans (mul-le-mul_right (2 ^ 1074) t) (le_of_eq (mul_right_comm 1010 (down e) (2 ^ 1074))))) (down_pos e) in
+        let a : r * 2 ^ k ≤ 1010 * 2 ^ 1074 = le_of_mul-le-mul_right {n = 1010 * 2 ^ 1074} (le_trans (le_of_eq (sym h)) (le_trans (mul-le-mul_right (2 ^ 1074) t) (le_of_eq (mul_right_comm 1010 (down e) (2 ^ 1074))))) (down_pos e) in
         let b : 2 ^ (52 + k) ≤ 1010 * 2 ^ 1074 = le_trans (le_of_eq (pow-add 2 52 k)) (le_trans (mul-le-mul_right (2 ^ k) g) a) in
-        lt_of_not_le (λ (x : 1032 ≤ k). not_le_of_lt (lt_of_lt_of_le (lit< {m = 1010 * 2 ^ 1074} {n = 2 ^ 1084} tt) (pow_mono {i = 1084} {j = 52 + k} (omega arith))) b)
+        lt_of_not-le (λ (x : 1032 ≤ k). not-le_of_lt (lt_of_lt_of_le (lit< {m = 1010 * 2 ^ 1074} {n = 2 ^ 1084} tt) (pow_mono {i = 1084} {j = 52 + k} (omega arith))) b)
 
     pub field_le : to_bits binary64 (fin false m e) / 2 ^ 52 ≤ 1032
     field_le = let z = large in let g = bound z.0 (to_bits binary64 (fin false m e) % 2 ^ 52 + 2 ^ 52) (omega arith) z.2 in omega (arith, z.1)

@@ -4,7 +4,7 @@ use mathlib.Core.Path.{◌≡◌, refl, sym, ap, ◌∙◌}
 use mathlib.Core.Bool.{Bool, true, false, not, ◌&&◌}
 use mathlib.Core.List.{List, [], ◌∷◌}
 use Prim.Native.Nat.{ℕ, zero, suc, ◌/◌, ◌*◌, ◌^◌, ◌<◌}
-use native.Mathlib.Nat.{pow_suc}
+use native.Mathlib.Nat.{pow-suc}
 use native.Mathlib.Omega.{arith}
 use lib.Dec.{eqb, leb}
 use lib.IntN.{ℤ, pos, negsuc, nat_abs}
@@ -64,7 +64,7 @@ enough f (suc i) zero r x n l h = let e : n ≡ 0 = omega arith in rw e (zeros f
 enough f (suc i) (suc j) r x n l h = enough f i j (taken f (odd n) r x) (mul binary64 x x) (n / 2) (half i l) (half j h)
   where
     half : (i : ℕ) → n < 2 ^ suc i → n / 2 < 2 ^ i
-    half i h = let p : 2 ^ suc i ≡ 2 ^ i * 2 = pow_suc 2 i in omega arith
+    half i h = let p : 2 ^ suc i ≡ 2 ^ i * 2 = pow-suc 2 i in omega arith
 
 higher : (k : ℕ) (b : Bool) (r a : Float) (h : ℕ) → eqb h 0 ≡ b → raw_higher_bits k b r a h ≡ over_bits (λ r. r) r (mul binary64 a a) (lowest k h)
 unfolding raw_higher_bits over_bits lowest
@@ -90,7 +90,7 @@ pub more : (f : Float → Float) (k : ℕ) (r x out : Float) (n : ℕ) → (n / 
 unfolding over_bits lowest
 more f zero r x out n h l e = absurd (h (omega arith))
 more f (suc k) r x out n h l e =
-    let half : n / 2 < 2 ^ suc k = let p : 2 ^ suc (suc k) ≡ 2 ^ suc k * 2 = pow_suc 2 (suc k) in omega arith in
+    let half : n / 2 < 2 ^ suc k = let p : 2 ^ suc (suc k) ≡ 2 ^ suc k * 2 = pow-suc 2 (suc k) in omega arith in
     e k half
 
 -- ---- the law

@@ -4,7 +4,7 @@ use mathlib.Core.Path.{◌≡◌, refl, sym, ◌∙◌, subst}
 use mathlib.Core.Bool.{Bool, true, false}
 use mathlib.Core.List.{List, [], ◌∷◌}
 use Prim.Native.Nat.{ℕ, zero, suc, ◌*◌, ◌/◌, ◌%◌, ◌^◌, ◌<◌, ◌≤◌}
-use native.Mathlib.Nat.{pow_suc}
+use native.Mathlib.Nat.{pow-suc}
 use native.Mathlib.Omega.{arith}
 use lib.Dec.{T}
 use lib.Ieee.{Float, binary64, size, mul}
@@ -59,8 +59,8 @@ top : (k n : ℕ) → 2 ^ k ≤ n → n < 2 ^ suc k → T (highest (odd n) (lowe
 unfolding highest lowest
 top zero n l h = subst T (sym (eq-eqb (n % 2) 1 (omega arith))) tt
 top (suc k) n l h =
-    let p : 2 ^ suc k ≡ 2 ^ k * 2 = pow_suc 2 k in
-    let q : 2 ^ suc (suc k) ≡ 2 ^ suc k * 2 = pow_suc 2 (suc k) in
+    let p : 2 ^ suc k ≡ 2 ^ k * 2 = pow-suc 2 k in
+    let q : 2 ^ suc (suc k) ≡ 2 ^ suc k * 2 = pow-suc 2 (suc k) in
     top k (n / 2) (omega arith) (omega arith)
 
 pub squares : (a x : Float) (n : ℕ) → by_bits_and_squares a one x (bits n) ≡ by_bits a one x (bits n)

@@ -1,8 +1,5 @@
 -- `rules::signed_number` meets its contract: n or -n is a whole number that an f64 holds. Assumes nothing.
-use Prim.Native.Nat.{◌^◌}
-use native.Mathlib.Omega.{arith}
-use lib.Dec.{le→leb}
-use lib.Ieee.{in_float, of_int, round, of_bits}
+use lib.Ieee.{of_int, round, of_bits}
 use Rattle.rules.proofs.Exps.{minus_number}
 use Rattle.rules.proofs.exp.signed_number.Goals as goal
 

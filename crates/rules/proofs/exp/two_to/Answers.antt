@@ -3,7 +3,6 @@ use Prim.Native.Nat.{◌+◌, ◌-◌, ◌*◌, ◌^◌}
 use native.Mathlib.Omega.{arith}
 use Rattle.rules.proofs.Fields.{no_nan_bits}
 use Rattle.rules.proofs.Exps.{two_up, two_neg}
-use borrow.Author.Rules.{rules}
 use Rattle.rules.proofs.exp.two_to.Goals as goal
 
 pub float_from_bits-result : goal.float_from_bits-result

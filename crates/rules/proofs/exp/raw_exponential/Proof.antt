@@ -1,9 +1,0 @@
--- `rules::raw_exponential` meets its contract: it is the number of the answer, or a NaN. Assumes nothing.
-use mathlib.Core.Path.{◌∙◌, ap}
-use Rattle.common.specs.Outcome.{or_nan}
-use borrow.Author.Rules.{rules}
-use Rattle.rules.proofs.exp.raw_exponential as own
-
-pub raw_exponential_spec : {M : Type 1} → own.Statement.statement M
-raw_exponential_spec =
-    own.Tie.close (own.Tie.spec (λ c κs. search rules) (λ c κs. search rules) (λ c. c.or-nan.ensures ∙ ap or_nan c.before.exponential.ensures))
