@@ -4,7 +4,7 @@ use mathlib.Core.List.{List, [], ◌∷◌, map}
 use Prim.Native.Nat.{ℕ, ◌^◌}
 use Prim.Native.String.{String}
 use lib.Dec.{T, ltb, lit<}
-use lib.ListN.{length, replicate}
+use lib.ListN.{replicate}
 use contract.Lifetimes.{Lfts}
 use denote.Triple.Clauses.{AtExit}
 use borrow.Fn.Kinds.{Dens, ended_of, res_t}

@@ -1,5 +1,7 @@
 // Text in lent bytes: a run of bytes (`put`) and a number in decimal (`put_decimal`), written from an index on where they have room. Each answers the
 // index past what it wrote.
+#![tactic(auto)]
+
 ghost use Rattle.std.specs.Prelude.{◌≡◌, ◌+◌, ◌≤◌, ◌%◌, length};
 ghost use Rattle.text.specs.Text.{decimal, fitting, Wrote};
 

@@ -1,0 +1,14 @@
+-- `text::put_decimal` meets its contract: a number has twenty digits at most. Assumes nothing.
+use mathlib.Core.Path.{sym, ◌∙◌}
+use Prim.Native.Nat.{◌+◌, ◌≤◌}
+use native.Mathlib.Omega.{arith}
+use lib.ListN.{length}
+use borrow.Author.Tests.{leb-true}
+use Rattle.text.proofs.Laws.{decimal_room}
+use Rattle.text.proofs.put_decimal.Goals as goal
+
+pub digits-requires : goal.digits-requires
+digits-requires c =
+    let a = c.args in
+    let h : a.at + 20 ≤ length a.out.now = leb-true _ _ (sym c.lies.ensures ∙ c.if-lies.true) in
+    omega (arith, h, decimal_room a.n c.ranges.n.fits)
