@@ -4,7 +4,7 @@ use Rattle.std.specs.Prelude.{Bool, ◌&&◌, cond, List, [], ◌∷◌, Float}
 use Rattle.std.specs.Float.Ieee.{le, lt}
 use Rattle.common.specs.Decimal.{decimal, whole}
 use Rattle.subregion.specs.declared.Letter.{Letter}
-use Rattle.subregion.specs.declared.Letter.TheVariants.{A, B, C, D, E, F, G, H, I, J, K, L, M, N, O, P, Q, R, S, T, U, «V», W, X, Y, Z}
+use Rattle.subregion.specs.declared.Letter.TheVariants.{A, B, C, D, E, F, H, I, J, K, L, M, N, O, P, Q, R, S, T, U, «V», W, X, Y, Z}
 
 -- ---- the bands by p
 

@@ -1,4 +1,6 @@
 // The letters of a band by T, from the numbers of its boundaries, whatever these are: crates bands and boundary work the boundaries out.
+#![tactic(auto)]
+
 mod letter_by;
 
 pub use letter_by::{
