@@ -25,15 +25,21 @@ units_are (fin t m e) s a v = ap (λ (y : ℕ). y / down e) v.1 ∙ mul-div_canc
 
 -- its bits are below the infinity's
 pub bits_lt : (x : Float) → T (fits binary64 x) → T (positive x) → to_bits binary64 x < 0x7ff0_0000_0000_0000
+bits_lt nan f p = absurd p
+bits_lt (inf s) f p = absurd p
 bits_lt (fin true zero e) f p = absurd p
 bits_lt (fin true (suc m) e) f p = absurd p
+bits_lt (fin false zero e) f p = absurd p
 bits_lt (fin false (suc m) e) f p = fields.bits_lt (suc m) e f
 
 -- it is one unit at least
 pub units_pos : (x : Float) → T (fits binary64 x) → T (positive x) → 0 < in_units x
 unfolding fits in_units
+units_pos nan f p = absurd p
+units_pos (inf s) f p = absurd p
 units_pos (fin true zero e) f p = absurd p
 units_pos (fin true (suc m) e) f p = absurd p
+units_pos (fin false zero e) f p = absurd p
 units_pos (fin false (suc m) e) f p =
     let g : down e ≤ 2 ^ 1074 = leb→le (down e) (2 ^ 1074) (and_r (eqb (suc m % 2) 1 && ltb (suc m) (2 ^ 53)) (leb (down e) (2 ^ 1074)) (and_l (eqb (suc m % 2) 1 && ltb (suc m) (2 ^ 53) && leb (down e) (2 ^ 1074)) (ltb (suc m * up e) (2 ^ 1024 * down e)) f)) in
     (le-div_iff_mul-le (down_pos e)).1

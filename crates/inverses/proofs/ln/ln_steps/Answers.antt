@@ -3,11 +3,8 @@ use mathlib.Core.Path.{refl}
 use lib.Ieee.{div, of_int, round, of_bits}
 use Rattle.rules.specs.Exp.{L}
 use Rattle.inverses.specs.RawLog.{raw_ln}
-use Rattle.inverses.proofs.ln.ln_steps as own
+use Rattle.inverses.proofs.ln.ln_steps.Goals as goal
 
-returns : own.Tie.Need-returns
+pub returns : goal.returns
 unfolding raw_ln L div of_int round of_bits
 returns c = refl
-
-pub ln_steps_spec : {M : Type 1} → own.Statement.statement M
-ln_steps_spec = own.Tie.close (own.Tie.spec returns)
