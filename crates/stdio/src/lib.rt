@@ -1,11 +1,15 @@
 // Standard input read in pages, and bytes written, for the programs that work rows: what fails is said on standard error.
-// No contract can speak of what was read or written, so `read_until_full` promises only how many bytes it filled, and the others are safe and end.
-ghost use Rattle.io.specs.Counts.{IsPrefixLen};
+// What was read is known where the reader's bytes are, what was written where the writer's are; of standard input and output nothing is known.
+#![tactic(auto)]
 
-use libc::{STDERR_FILENO, STDIN_FILENO};
+ghost use Rattle.std.specs.Prelude.{◌≡◌, length, take, IsTrue};
+ghost use Rattle.std.specs.Io.KnownBytes.{Appends, Consumes, IsAtEnd};
+ghost use Rattle.stdio.specs.Counts.{IsPrefixLen};
+
+use std::io::{Cursor, Error, IsTerminal, Read, Write};
 
 // Why no more bytes were read.
-#[derive(Drop)]
+#[derive(Clone, Copy)]
 pub enum Stop {
     Full,
     Ended,
@@ -13,27 +17,36 @@ pub enum Stop {
 }
 
 // What reading came to: how many bytes there are, and why no more.
-#[derive(Drop)]
+#[derive(Clone, Copy)]
 pub struct Reading {
     pub have: usize,
     pub stop: Stop,
 }
 
 // Reads until the bytes are full or the input ends: a read may give fewer than are asked for. Says `what` and the reason of a failed read.
-pub fn read_until_full(what: &[u8], bytes: &mut [u8]) -> Reading
-    ensures { IsPrefixLen result.have bytes.new }
+pub fn read_until_full<R: Read>(
+    rt: HostRuntime,
+    what: &[u8],
+    input: &mut R,
+    bytes: &mut [u8],
+) -> Reading
+    ensures have { IsPrefixLen result.have bytes.new }
+    ensures gathered { Consumes (R.remaining input.old) (R.remaining input.new) (take result.have bytes.new) }
+    ensures full { result.stop ≡ Stop.Full → result.have ≡ length bytes.new }
+    ensures ended { result.stop ≡ Stop.Ended → IsAtEnd (R.remaining input.new) }
 {
     let mut have = 0;
     while have < bytes.len() {
-        let got = libc::read(STDIN_FILENO, &mut bytes[have..]);
-        if got < 0 {
-            os::fail(what);
-            return Reading {
-                have,
-                stop: Stop::Failed,
-            };
-        }
-        let n = io::count(got, &bytes[have..]);
+        let n = match input.read(&mut bytes[have..]) {
+            Ok(n) => n,
+            Err(e) => {
+                fail(rt, what, e);
+                return Reading {
+                    have,
+                    stop: Stop::Failed,
+                };
+            }
+        };
         if n == 0 {
             return Reading {
                 have,
@@ -49,24 +62,54 @@ pub fn read_until_full(what: &[u8], bytes: &mut [u8]) -> Reading
 }
 
 // Writes the bytes and answers whether that went well. Says `what` and the reason where it did not.
-pub fn send(what: &[u8], fd: i32, bytes: &[u8]) -> bool {
-    if io::write_all(fd, bytes) {
-        return true;
+pub fn send<W: Write>(rt: HostRuntime, what: &[u8], to: &mut W, bytes: &[u8]) -> bool
+    ensures sent { IsTrue result → Appends (W.contents to.old) (W.contents to.new) bytes.now }
+{
+    match to.write_all(bytes) {
+        Ok(()) => true,
+        Err(e) => {
+            fail(rt, what, e);
+            false
+        }
     }
-    os::fail(what);
-    false
 }
 
 // On standard error.
-pub fn say(text: &[u8]) {
-    io::write_all(STDERR_FILENO, text);
+pub fn say(rt: HostRuntime, text: &[u8]) {
+    let _ = rt.stderr().write_all(text);
+}
+
+// How many bytes of a reason are said at most.
+const REASON: usize = 96;
+
+// A line: what failed, a colon and the reason, as the system words it and without its number.
+fn fail(rt: HostRuntime, what: &[u8], reason: Error) {
+    let mut text = [0u8; REASON];
+    let mut room = Cursor::new(&mut text[..]);
+    let _ = write!(room, "{reason}");
+    let end = room.position() as usize;
+    say(rt, what);
+    say(rt, b": ");
+    say(rt, without_number(&text[..end.min(REASON)]));
+    say(rt, b"\n");
+}
+
+// A reason without the system's number of it, which stands behind it in brackets.
+fn without_number(reason: &[u8]) -> &[u8] {
+    match reason
+        .windows(11)
+        .position(|w| w == b" (os error ".as_slice())
+    {
+        Some(end) => &reason[..end],
+        None => reason,
+    }
 }
 
 // Whether standard input is a terminal; there it says the usage. A terminal changes bytes on their way (a carriage return, a control
 // character), so that rows read from one could be others than were sent.
-pub fn from_terminal(usage: &[u8]) -> bool {
-    if libc::isatty(STDIN_FILENO) == 1 {
-        say(usage);
+pub fn from_terminal(rt: HostRuntime, usage: &[u8]) -> bool {
+    if rt.stdin().is_terminal() {
+        say(rt, usage);
         return true;
     }
     false
