@@ -1,4 +1,6 @@
 // Which number names which entry point: the kinds of entries, and the reading of a number (`numbers`).
+#![tactic(auto)]
+
 mod numbers;
 
 pub use numbers::entry_of;
@@ -14,7 +16,7 @@ pub enum Entry {
 }
 
 // The written rules, the saturation line, a boundary, the letter, a letter's volume.
-#[derive(Drop)]
+#[derive(Clone, Copy)]
 pub enum Ones {
     Unnamed,
     Power,
@@ -29,7 +31,7 @@ pub enum Ones {
 }
 
 // Volumes, the backward equations, the border with region 2.
-#[derive(Drop)]
+#[derive(Clone, Copy)]
 pub enum Tens {
     Unnamed,
     Volume,
@@ -44,7 +46,7 @@ pub enum Tens {
 }
 
 // Records, and a property.
-#[derive(Drop)]
+#[derive(Clone, Copy)]
 pub enum Twenties {
     Unnamed,
     TdRecord,
@@ -59,7 +61,7 @@ pub enum Twenties {
 }
 
 // A row of the column run, cp and w together, what a search finds.
-#[derive(Drop)]
+#[derive(Clone, Copy)]
 pub enum Thirties {
     Unnamed,
     ColumnRow,
