@@ -1,5 +1,7 @@
 // The saturation line of region 4: R7-97, equations 30 and 31. First the steps of each, then the calls.
 // The steps are raw: a number that is lost travels as itself to the end, and only a divisor is tested before it could be hidden.
+#![tactic(auto)]
+
 ghost use Rattle.std.specs.Prelude.{◌≡◌, Float};
 ghost use Rattle.common.specs.Outcome.{Outcome, or_nan};
 ghost use Rattle.common.specs.Formula.{Raw};

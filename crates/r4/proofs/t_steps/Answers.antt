@@ -8,22 +8,16 @@ use Rattle.common.specs.Decimal.{scaled, decimal, whole, plus, minus}
 use Rattle.common.proofs.Formulas.{raw_value, named, ◌+ʳ◌, ◌-ʳ◌, ◌*ʳ◌}
 use Rattle.inverses.proofs.Formulas.{raw_root_of, raw_root_from}
 use Rattle.r4.specs.Saturation.{T_saturation, n9, n10}
-use borrow.Author.Rules.{rules}
-use Rattle.r4.proofs.t_steps as own
+use Rattle.r4.proofs.t_steps.Goals as goal
 
-returns : own.Tie.Need-returns
+pub returns : goal.returns
 unfolding T_saturation plus minus scaled decimal whole round of_bits
 returns c =
-    let second = c.before.before in
-    let first = second.before in
-    let p = first.before.args.p in
+    let p = c.args.p in
     let four = raw_value (whole 4) refl in
     let N9 = raw_value (or_nan n9) refl in
     let N10 = raw_value (or_nan n10) refl in
-    let β = named second.raw-root2.ensures (raw_root_of (subst T (sym first.raw-root.type-inv) tt) (named first.raw-root.ensures (raw_root_from p (subst T (sym first.before.well-formed.0.1) tt)))) in
-    let D = c.before.quotient-d.ensures _ β in
+    let β = named c.raw_root-2.ensures (raw_root_of (subst T (sym c.raw_root.type_inv) tt) (named c.raw_root.ensures (raw_root_from p (subst T (sym c.well_formed.0.1) tt)))) in
+    let D = c.quotient_d-d.ensures _ β in
     let square = (N10 +ʳ D) *ʳ (N10 +ʳ D) -ʳ four *ʳ (N9 +ʳ N10 *ʳ D) in
-    raw_value (decimal 0_5 1) refl *ʳ (N10 +ʳ D -ʳ named c.raw-root3.ensures (raw_root_of (sub-fits binary64 _ _) square))
-
-pub t_steps_spec : {M : Type 1} → own.Statement.statement M
-t_steps_spec = own.Tie.close (own.Tie.spec (λ c κs. search rules) (λ c κs. search rules) (λ c κs. search rules) (λ c κs. search rules) returns)
+    raw_value (decimal 0_5 1) refl *ʳ (N10 +ʳ D -ʳ named c.raw_root-3.ensures (raw_root_of (sub-fits binary64 _ _) square))

@@ -7,17 +7,13 @@ use Rattle.common.specs.Decimal.{scaled, whole, plus, minus}
 use Rattle.common.proofs.Formulas.{raw_value as num, raw_minus, named, ◌+ʳ◌, ◌-ʳ◌, ◌*ʳ◌, ◌/ʳ◌}
 use Rattle.inverses.proofs.Formulas.{raw_root_of}
 use Rattle.r4.specs.Saturation.{n1, n2, n3, n4, n5, n6, n7, n8}
-use borrow.Author.Rules.{rules}
-use Rattle.r4.proofs.quotient as own
+use Rattle.r4.proofs.quotient.Goals as goal
 
-returns : own.Tie.Need-returns
+pub returns : goal.returns
 unfolding plus minus scaled whole round of_bits
 returns c o ϑ =
     let A = ϑ *ʳ (ϑ +ʳ num (or_nan n1) refl) +ʳ num (or_nan n2) refl in
     let B = ϑ *ʳ (num (or_nan n3) refl *ʳ ϑ +ʳ num (or_nan n4) refl) +ʳ num (or_nan n5) refl in
     let C = ϑ *ʳ (num (or_nan n6) refl *ʳ ϑ +ʳ num (or_nan n7) refl) +ʳ num (or_nan n8) refl in
-    let root = named c.before.raw-root.ensures (raw_root_of (sub-fits binary64 _ _) (B *ʳ B -ʳ num (whole 4) refl *ʳ A *ʳ C)) in
+    let root = named c.raw_root.ensures (raw_root_of (sub-fits binary64 _ _) (B *ʳ B -ʳ num (whole 4) refl *ʳ A *ʳ C)) in
     named c.over.ensures (num (whole 2) refl *ʳ C /ʳ (raw_minus B +ʳ root))
-
-pub quotient_spec : {M : Type 1} → own.Statement.statement M
-quotient_spec = own.Tie.close (own.Tie.spec (λ c κs. search rules) (λ c κs. search rules) returns)
