@@ -1,5 +1,7 @@
 // The powers of one base, each worked once: the power n stands at 64 + n, for n from -64 to 64. At a usual base they are worked by doubling, at any other
 // one by one by the rule.
+#![tactic(auto)]
+
 ghost use Rattle.std.specs.Prelude.{◌≡◌, List, ℕ, ◌+◌, ◌-◌, ◌<◌, ◌≤◌, ◌^◌, length, set, Float};
 ghost use Rattle.rules.specs.Power.{one};
 ghost use Rattle.powers.specs.Powers.{Written, WrittenBy, BarePowers, Powers, ruled, capped, exponent_at, looked_up};
