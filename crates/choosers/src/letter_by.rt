@@ -8,7 +8,7 @@ use common::{Kelvin, MPa};
 use subregion::Letter;
 
 // Round the critical point: a letter, or the near-critical ones.
-#[derive(Drop)]
+#[derive(Clone, Copy)]
 pub enum Near {
     Found(Letter),
     Inside,

@@ -6,7 +6,7 @@ mod numbers;
 pub use numbers::entry_of;
 
 // The entry points by the tens of their numbers, each ten a kind. Unnamed stands for a number that names none.
-#[derive(Drop)]
+#[derive(Clone, Copy)]
 pub enum Entry {
     Unnamed,
     Ones(Ones),

@@ -12,7 +12,7 @@ pub use records::{blank, fields, origin_byte, refuse};
 pub use state::{density, settle_p, settle_t, settle_v};
 
 // The property record: K, kg/m3, m3/kg, MPa, kJ/kg, kJ/(kg K), kJ/kg, kJ/(kg K), kJ/(kg K), m/s.
-#[derive(Drop)]
+#[derive(Clone, Copy)]
 pub struct Record {
     pub T: f64,
     pub d: f64,
@@ -27,14 +27,14 @@ pub struct Record {
 }
 
 // The answer of a call for a record: all +0.0 where it is refused.
-#[derive(Drop)]
+#[derive(Clone, Copy)]
 pub struct RecordAnswer {
     pub verdict: Verdict,
     pub record: Record,
 }
 
 // Where a volume comes from: a letter's equation, or the answer at the critical point, which has no letter.
-#[derive(Drop)]
+#[derive(Clone, Copy)]
 pub enum Origin {
     Subregion(Letter),
     Critical,

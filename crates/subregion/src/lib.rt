@@ -8,7 +8,7 @@ ghost use Rattle.subregion.specs.Letter.{ascii_of, of_byte, paper_letter, byte_i
 use common::{Refusal, number};
 
 // A subregion of S05rev.
-#[derive(Drop)]
+#[derive(Clone, Copy)]
 pub enum Letter {
     A,
     B,
@@ -39,7 +39,7 @@ pub enum Letter {
 }
 
 // The answer of the letter choice.
-#[derive(Drop)]
+#[derive(Clone, Copy)]
 pub enum LetterAnswer {
     Value(Letter),
     Refused(Refusal),
