@@ -88,12 +88,6 @@ spare B W = B / W + 2
 abbrev pub slack : Format → ℕ → ℕ
 slack f B = spare B (whole f)
 
-enough : (B W H : ℕ) → 0 < W → W ≡ 2 * H → B + H ≤ spare B W * W
-enough B W H P e =
-    let a : B / W * W + B % W ≡ B = div-add-mod' B W in
-    let b : B % W < W = mod-lt B P in
-    omega arith
-
 whole_pos : (f : Format) → 0 < whole f
 whole_pos f = mul-pos ((le-div_iff_mul-le (pow_pos 0)).1 zero_lt) (pow_pos (prec f - 1))
   where
@@ -108,12 +102,12 @@ cancel g c n W H B r P b k h l =
     let y : n * W ≤ (g * c + r * c) * W = omega arith in
     (le_of_mul-le-mul_right x P, le_of_mul-le-mul_right y P)
 
-grid_within : (f : Format) (a c B : ℕ) → 0 < c → a * 2 ^ low f ≤ B * c
-    → (grid f a c * c ≤ a * 2 ^ low f + slack f B * c) × (a * 2 ^ low f ≤ grid f a c * c + slack f B * c)
-grid_within f a c B C b =
+-- within r units, where r is at least B / 2 ^ prec + 1 / 2
+grid_within : (f : Format) (a c B r : ℕ) → 0 < c → a * 2 ^ low f ≤ B * c → B + 2 ^ (prec f - 1) ≤ r * whole f
+    → (grid f a c * c ≤ a * 2 ^ low f + r * c) × (a * 2 ^ low f ≤ grid f a c * c + r * c)
+grid_within f a c B r C b k =
     let g = grid_near f a c C in
-    cancel (grid f a c) c (a * 2 ^ low f) (whole f) (2 ^ (prec f - 1)) B (slack f B) (whole_pos f) b (enough B (whole f) (2 ^ (prec f - 1)) (whole_pos f) refl)
-    g.0 g.1
+    cancel (grid f a c) c (a * 2 ^ low f) (whole f) (2 ^ (prec f - 1)) B r (whole_pos f) b k g.0 g.1
 
 under : (g c n B r : ℕ) → 0 < c → n ≤ B * c → g * c ≤ n + r * c → g ≤ B + r
 under g c n B r C b h = le_of_mul-le-mul_right (omega arith) C
@@ -133,6 +127,12 @@ pub record Rounded (f : Format) (s : Bool) (a c B : ℕ) : Type 0 where
 
 pub round_near : (f : Format) (s : Bool) (a c B : ℕ) → 0 < c → a * 2 ^ low f ≤ B * c → B + slack f B < overflow f → Rounded f s a c B
 round_near f s a c B C b o =
-    let g = grid_within f a c B C b in
+    let g = grid_within f a c B (slack f B) C b (enough B (whole f) (2 ^ (prec f - 1)) (whole_pos f) refl) in
     let u = under (grid f a c) c (a * 2 ^ low f) B (slack f B) C b g.0 in
     record { size = grid f a c; value = round_val f s a c (lt_of_le_of_lt u o); small = u; above = g.0; below = g.1 }
+  where
+    enough : (B W H : ℕ) → 0 < W → W ≡ 2 * H → B + H ≤ spare B W * W
+    enough B W H P e =
+        let a : B / W * W + B % W ≡ B = div-add-mod' B W in
+        let b : B % W < W = mod-lt B P in
+        omega arith
