@@ -5,7 +5,7 @@ use mathlib.Core.List.{List, [], ◌∷◌, ◌++◌, map}
 use Prim.Native.Nat.{ℕ}
 use lib.ListN.{replicate}
 use lib.Ieee.{to_bits}
-use Rattle.common.specs.Outcome.{Outcome, value, refused}
+use Rattle.common.specs.Outcome.{value, refused}
 use Rattle.common.specs.Decimal.{whole, scaled}
 use Rattle.exchange_record.specs.declared.Pair.TheVariants as pair
 use Rattle.exchange_writer.specs.declared.Point.{Point}

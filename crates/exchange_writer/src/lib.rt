@@ -1,5 +1,7 @@
 // A point of the exchange and its record: the two numbers of a pair under their units (`points`), and two fields in rising tags, 22 bytes, written where an
 // entry's verdict and the lent room allow it. No entry is called here.
+#![tactic(auto)]
+
 ghost use Rattle.std.specs.Prelude.{◌≡◌, ◌≤◌, length};
 ghost use Rattle.std.proofs.lemmas.List.Edits.{sets};
 ghost use Rattle.common.specs.Outcome.{number_in};
@@ -16,7 +18,7 @@ mod points;
 pub use points::{point_at, point_of};
 
 // The two numbers of a pair, each under its unit.
-#[derive(Drop)]
+#[derive(Clone, Copy)]
 pub enum Point {
     PT(MPa, Kelvin),
     TD(Kelvin, KgPerM3),
@@ -26,20 +28,20 @@ pub enum Point {
 }
 
 // Why a point is not written: its entry's own refusal, or fewer than 22 bytes lent.
-#[derive(Drop)]
+#[derive(Clone, Copy)]
 pub enum WriteRefusal {
     Entry(Refusal),
     Room,
 }
 
-#[derive(Drop)]
+#[derive(Clone, Copy)]
 pub enum WriteVerdict {
     Accepted,
     Refused(WriteRefusal),
 }
 
 // Two numbers, each with its tag.
-#[derive(Drop)]
+#[derive(Clone, Copy)]
 pub struct Fields(pub u8, pub f64, pub u8, pub f64);
 
 // The field of a number.
@@ -115,7 +117,7 @@ pub fn write_number(v: WriteVerdict) -> u8
 }
 
 // The pair that a byte names.
-#[derive(Drop)]
+#[derive(Clone, Copy)]
 pub enum PairAnswer {
     Value(Pair),
     Unknown,
