@@ -12,7 +12,6 @@ use Rattle.common.specs.Constant.{p_range_from, p_range_to, t_range_from, t_rang
 use Rattle.common.specs.Range.{within, pT_box}
 use Rattle.common.proofs.Calls.{no_value}
 use Rattle.common.proofs.Laws.{check_kept}
-use Rattle.inverses.specs.Units as units
 use Rattle.inverses.specs.Units.{in_units}
 use Rattle.inverses.specs.Root.{root_rule, nearest_root}
 use Rattle.border.specs.Border.{n3, n4, n5, B23_p2T, beside_border, region3_box}

@@ -1,5 +1,7 @@
 // The border between regions 2 and 3: R7-97, equations 5 and 6 (common/boundaries.rs). First the steps of each, then the calls, then the test that
 // (p,T) lies on region 3's side. The steps are raw: a number that is lost travels as itself to the end.
+#![tactic(auto)]
+
 ghost use Rattle.std.specs.Prelude.{◌≡◌, cond, not};
 ghost use Rattle.std.specs.Float.{binary64};
 ghost use Rattle.std.specs.Float.Ieee.{add, lt};

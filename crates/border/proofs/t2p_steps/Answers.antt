@@ -5,13 +5,10 @@ use Rattle.common.specs.Outcome.{or_nan}
 use Rattle.common.specs.Decimal.{scaled, plus, minus}
 use Rattle.common.proofs.Formulas.{raw_value, raw_first, raw_times, ◌+ʳ◌}
 use Rattle.border.specs.Border.{B23_T2p, n1, n2, n3}
-use Rattle.border.proofs.t2p_steps as own
+use Rattle.border.proofs.t2p_steps.Goals as goal
 
-returns : own.Tie.Need-returns
+pub returns : goal.returns
 unfolding B23_T2p plus minus scaled round of_bits
 returns c =
     let t = c.args.t in
     raw_value (or_nan n1) refl +ʳ raw_times t (raw_value (or_nan n2) refl +ʳ raw_first (mul binary64) (or_nan n3) t)
-
-pub t2p_steps_spec : {M : Type 1} → own.Statement.statement M
-t2p_steps_spec = own.Tie.close (own.Tie.spec returns)

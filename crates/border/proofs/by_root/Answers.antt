@@ -4,19 +4,15 @@ use mathlib.Core.Bool.{Bool, not}
 use lib.Ieee.{Float, binary64, add, lt, of_bits, round}
 use Rattle.common.specs.Decimal.{scaled, plus}
 use Rattle.border.proofs.Never.{N4}
-use borrow.Author.Rules.{rules}
-use Rattle.border.proofs.by_root as own
+use Rattle.border.proofs.by_root.Goals as goal
 
 tested : (t : Float) {x y : Float} {b : Bool} → y ≡ x → lt (add binary64 N4 y) t ≡ b → not b ≡ not (lt (add binary64 N4 x) t)
 tested t e h = ap not (sym h ∙ ap (λ (y : Float). lt (add binary64 N4 y) t) e)
 
-returns : own.Tie.Need-returns
+pub returns-then-raw_root-t : goal.returns-then-raw_root-t
 unfolding plus scaled round of_bits
-returns c = tested c.before.before.args.t c.before.raw-root.ensures c.if1.true
+returns-then-raw_root-t c = tested c.args.t c.raw_root.ensures c.if-raw_root-t.true
 
-returns-2 : own.Tie.Need-returns-2
+pub returns-else-raw_root-t : goal.returns-else-raw_root-t
 unfolding plus scaled round of_bits
-returns-2 c = tested c.before.before.args.t c.before.raw-root.ensures c.if1.false
-
-pub by_root_spec : {M : Type 1} → own.Statement.statement M
-by_root_spec = own.Tie.close (own.Tie.spec (λ c κs. search rules) returns returns-2)
+returns-else-raw_root-t c = tested c.args.t c.raw_root.ensures c.if-raw_root-t.false

@@ -7,15 +7,11 @@ use Rattle.common.specs.Decimal.{scaled, plus}
 use Rattle.common.proofs.Formulas.{raw_value, raw_first, raw_by, named, ◌+ʳ◌}
 use Rattle.inverses.proofs.Formulas.{raw_root_of}
 use Rattle.border.specs.Border.{B23_p2T, n3, n4, n5}
-use borrow.Author.Rules.{rules}
-use Rattle.border.proofs.p2t_steps as own
+use Rattle.border.proofs.p2t_steps.Goals as goal
 
-returns : own.Tie.Need-returns
+pub returns : goal.returns
 unfolding B23_p2T plus scaled round of_bits
 returns c =
-    let p = c.before.args.p in
+    let p = c.args.p in
     raw_value (or_nan n4) refl
-    +ʳ named c.raw-root.ensures (raw_root_of (div-fits binary64 _ _) (raw_by (or_nan n3) (raw_first (sub binary64) p (or_nan n5))))
-
-pub p2t_steps_spec : {M : Type 1} → own.Statement.statement M
-p2t_steps_spec = own.Tie.close (own.Tie.spec (λ c κs. search rules) returns)
+    +ʳ named c.raw_root.ensures (raw_root_of (div-fits binary64 _ _) (raw_by (or_nan n3) (raw_first (sub binary64) p (or_nan n5))))
