@@ -3,8 +3,7 @@ use mathlib.Core.Path.{◌≡◌, refl}
 use mathlib.Core.List.{List, [], ◌∷◌, ◌++◌}
 use Prim.Native.Nat.{ℕ}
 use lib.ListN.{replicate}
-use lib.Seq.{sets}
-use lib.Ieee.{nan, binary64, to_bits}
+use lib.Ieee.{nan, to_bits}
 use Rattle.common.specs.Outcome.{zero_f}
 use Rattle.common.specs.Decimal.{whole, scaled}
 use Rattle.buffer.specs.Bytes.{joined, placed}

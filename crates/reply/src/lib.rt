@@ -1,4 +1,6 @@
 // What a call answers, as the checking programs pass it on: a reply with its shapes (`shape`), and its 88 bytes (`bytes`).
+#![tactic(auto)]
+
 mod bytes;
 mod shape;
 
@@ -6,7 +8,7 @@ pub use bytes::put_reply;
 pub use shape::{letter_reply, number_reply, record_reply, refused};
 
 // The refusal's number or 0, the letter in ASCII or 0, a whole number beside these (of cp and w together: w's refusal; of a search: its trials), and up to ten numbers.
-#[derive(Drop)]
+#[derive(Clone, Copy)]
 pub struct Reply {
     pub refusal: u8,
     pub letter: u8,
