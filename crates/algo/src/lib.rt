@@ -1,5 +1,7 @@
 // The sums over the rows I, J, n of a table, in table order (algo/polynomial.rs and algo/polynomial_steps.rs): how they are defined, and how one is gated at
 // its end. `table_sums` has the sums of the printed tables, `slopes` and `joint` those of differentiated terms, and `polynomial` the Rust's calls.
+#![tactic(auto)]
+
 ghost use Rattle.std.specs.Prelude.{◌≡◌};
 ghost use Rattle.common.specs.Outcome.{or_nan};
 ghost use Rattle.algo.specs.Raw.{gate};
@@ -7,7 +9,7 @@ ghost use Rattle.algo.specs.Raw.{gate};
 use common::is_finite;
 
 // How often a power of a table's term is differentiated by its base.
-#[derive(Drop)]
+#[derive(Clone, Copy)]
 pub enum Order {
     Zero,
     One,
@@ -16,7 +18,7 @@ pub enum Order {
 
 // How a sum takes up an item that it shares with others: whole, or differentiated by vi, by vj, or twice. The item is multiplied by its
 // exponent then, and the sum is divided by the base once at its end. `IAgain` is by vi for an item that is differentiated by vi already.
-#[derive(Drop)]
+#[derive(Clone, Copy)]
 pub enum Share {
     Whole,
     I,
