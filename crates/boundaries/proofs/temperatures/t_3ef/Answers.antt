@@ -2,8 +2,8 @@
 use mathlib.Core.Path.{refl}
 use lib.Ieee.{of_bits, round}
 use Rattle.common.specs.Decimal.{scaled, decimal}
-use Rattle.boundaries.proofs.temperatures.t_3ef as own
+use Rattle.boundaries.proofs.temperatures.t_3ef.Goals as goal
 
-pub t_3ef_spec : {M : Type 1} → own.Statement.statement M
+pub returns : goal.returns
 unfolding decimal scaled round of_bits
-t_3ef_spec = own.Tie.close (own.Tie.spec (λ c. refl))
+returns c = refl
