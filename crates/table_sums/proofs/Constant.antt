@@ -43,7 +43,8 @@ module _ {vi vj : Float} {ui di uj dj : ℕ} {rows : List Row} {z : Float} where
   bare_ends {b} e h s c =
       let i = first (usual_base vi) (usual_base vj) b e h in
       let j = second (usual_base vi) (usual_base vj) b e h in
-      slope_ends vi vj s.wi s.wj ui di uj dj (bare_hold vi _ _ ui di i s.worked_i) (bare_hold vj _ _ uj dj j s.worked_j) c (record { is = refl })
+      slope_ends vi vj s.wi s.wj ui di uj dj (bare_hold vi _ _ ui di i s.worked_i) (bare_hold vj _ _ uj dj j s.worked_j)
+      {a = Zero} {b = Zero} {rs = rows} c (record { is = refl })
       (s.is ∙ ap or_nan (sym (open_gate vi vj (raw_total (tabled_term Zero Zero s.wi s.wj) zero_f rows) (usual_finite vi i) (usual_finite vj j))))
 
   -- and where vj is tested first
@@ -53,5 +54,5 @@ module _ {vi vj : Float} {ui di uj dj : ℕ} {rows : List Row} {z : Float} where
 
   pub rule_ends : SummedBy Powers (gate vi vj) vi ui di vj uj dj rows z → T (every (covers Zero Zero ui di uj dj) rows) → z ≡ or_nan (sum_rule term vi vj rows)
   rule_ends s c =
-      slope_ends vi vj s.wi s.wj ui di uj dj (powers_hold vi _ _ ui di s.worked_i) (powers_hold vj _ _ uj dj s.worked_j) c
-      (record { is = refl }) s.is
+      slope_ends vi vj s.wi s.wj ui di uj dj (powers_hold vi _ _ ui di s.worked_i) (powers_hold vj _ _ uj dj s.worked_j)
+      {a = Zero} {b = Zero} {rs = rows} c (record { is = refl }) s.is

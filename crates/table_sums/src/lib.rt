@@ -1,5 +1,7 @@
 // The sum of a printed table, (n * vi^I) * vj^J over its rows in table order. A table comes by its columns, at the length of the longest, 43, and by the
 // number of its rows. At usual bases, which a caller tests, no power needs a look; at any other the powers are the rule's.
+#![tactic(auto)]
+
 ghost use Rattle.std.specs.Prelude.{◌≡◌, ◌&&◌, ◌≤◌, min, length, take};
 ghost use Rattle.common.specs.Outcome.{check};
 ghost use Rattle.common.specs.Sum.{raw_total};

@@ -1,0 +1,15 @@
+-- `table_sums::bare_sum` meets its contract: the two tables are those of zeros with the powers written, and the sum is checked at its end.
+use mathlib.Core.Path.{ap, ◌∙◌}
+use lib.Ieee.{of_bits}
+use Rattle.common.specs.Outcome.{check, or_nan}
+use Rattle.table_sums.proofs.bare_sum.Goals as goal
+
+pub returns : goal.returns
+unfolding of_bits
+returns c = record {
+  wi = _;
+  wj = _;
+  worked_i = c.fill_bare.ensures;
+  worked_j = c.fill_bare-2.ensures;
+  is = c.or_nan.ensures ∙ ap or_nan (c.settle.ensures ∙ ap check (rw c.least-m.ensures at c.plain_sum.ensures.is));
+}
