@@ -1,6 +1,8 @@
 // The bands by p away from the critical point. Each works its boundaries out and hands them to its chooser. Then one test refuses with 5 if any of them is
 // not finite: a number less itself is 0, or a NaN where it is not finite (proofs/Lost). Between 19 and 25 MPa no power of p and no polynomial in p can be so
 // (boundaries/proofs/Kept): the bands there take their bare forms, and test the other boundaries alone. Which p has which band is in crate boundary.
+#![tactic(auto)]
+
 ghost use Rattle.std.specs.Prelude.{◌≡◌, cond};
 ghost use Rattle.common.specs.Outcome.{value, refused, finite};
 ghost use Rattle.subregion.specs.Letter.{paper_letter};
