@@ -1,0 +1,108 @@
+"""The kit's own rt as a module: what rt ci does to try a must-fail edit, for tools/bundles, tools/edits and tools/must_not_compile.
+
+A check here is the one of rt ci: rattle over a copy of the crate's files, with the libraries below it as rt built them. Nothing here is a verdict."""
+import importlib.machinery
+import importlib.util
+import os
+import shutil
+import subprocess
+import sys
+from pathlib import Path
+
+TOP = Path(__file__).resolve().parent.parent
+sys.dont_write_bytecode = True
+
+
+def load():
+    found = shutil.which("rt")
+    if found is None:
+        sys.exit("there is no rt here: put the bin folder of the Rattle kit on PATH")
+    loader = importlib.machinery.SourceFileLoader("rt_of_the_kit", os.path.realpath(found))
+    module = importlib.util.module_from_spec(importlib.util.spec_from_loader("rt_of_the_kit", loader))
+    loader.exec_module(module)
+    lacking = [name for name in ("checked", "in_lanes", "linked", "need", "own_sum", "share_work", "stamp_of", "rtlib") if not hasattr(module, name)]
+    if lacking:
+        sys.exit(f"the rt of this kit is another than the tools were written for: it lacks {', '.join(lacking)}")
+    return module
+
+
+rt = load()
+
+
+def crates():
+    """The crates by their names, lowest first."""
+    os.chdir(TOP)
+    # (its first call sets a signal's handler, which only the main thread may)
+    rt.rtlib.guarded()
+    return {crate.name: crate for crate in rt.rtlib.crates_below(str(TOP))}
+
+
+def as_ci_left(crates):
+    """Whether the libraries of these crates are those that rt ci left, which have no stamp: right after it they are of this text."""
+    return all(os.path.isfile(f"{it.rlib}/format") and not os.path.exists(f"{it.folder}/out/rlib/stamp") for it in crates)
+
+
+def build_below(wanted, after_ci):
+    """Builds the libraries below the wanted crates where they are not built of this text, and returns the names of those that are not proved."""
+    below = list(dict.fromkeys(it for crate in wanted for it in crate.below()))
+    if after_ci and as_ci_left(below):
+        return []
+    rt.share_work(False)
+    failed = []
+    for crate in below:
+        if crate.is_built():
+            continue
+        print(f"proves {crate.name} first", file=sys.stderr, flush=True)
+        if {it.name for it in crate.below()} & {*failed} or crate.build_rlib([], anew=False):
+            failed.append(crate.name)
+    return failed
+
+
+def texts_of(crate):
+    """The texts of a crate, by their paths below it."""
+    found = {}
+    for part in rt.rtlib.PARTS:
+        for at, folders, names in os.walk(f"{crate.folder}/{part}"):
+            folders.sort()
+            for name in sorted(names):
+                if name.endswith((".rt", ".antt")):
+                    found[os.path.relpath(f"{at}/{name}", crate.folder)] = Path(at, name).read_text(encoding="utf8")
+    return found
+
+
+def begin(crate, room):
+    """A new folder of kept work below room for checks of the crate, begun with what a check of this checkout kept, if one did."""
+    kept, start = f"{room}/kept", f"{crate.folder}/out/incremental"
+    try:
+        if os.path.isdir(start):
+            rt.linked(start, kept)
+    except (OSError, shutil.Error):
+        # (another command may write what this one copies)
+        shutil.rmtree(kept, ignore_errors=True)
+    os.makedirs(kept, exist_ok=True)
+    return kept
+
+
+def check(crate, texts, kept, flags=("--jobs", "1")):
+    """What a check of the crate with these texts in place of its own says, and its status; once more where it was killed, most likely for memory."""
+    ran = rt.checked(crate, texts, [*flags], kept)
+    if ran.returncode == -9:
+        ran = rt.checked(crate, texts, [*flags], kept)
+    return ran.stdout, ran.returncode
+
+
+def snippet(name, text_files, deps, room):
+    """What the compiler says of a library of these texts that lists these crates, and its status: no proof is tried."""
+    for path, text in text_files.items():
+        file = Path(room, "src", path)
+        file.parent.mkdir(parents=True, exist_ok=True)
+        file.write_text(text, encoding="utf8")
+    kit, below = rt.KIT, list(dict.fromkeys(it for dep in deps for it in [*dep.below(), dep]))
+    words = [rt.rtlib.RATTLE, "check", "--crate-name", name, "src/lib.rt", "--extern", f"std={kit}/rlibs/std.rlib", "-L", f"dependency={kit}/rlibs"]
+    for dep in deps:
+        words += ["--extern", f"{dep.name}={dep.rlib}"]
+    for dep in below:
+        words += ["-L", f"dependency={os.path.dirname(dep.rlib)}"]
+    words += ["--antt-project", f"{kit}/rattle/logic/antt-project.json", "--logic-built", f"{kit}/logic_built", "--jobs", "1", "--only", ""]
+    ran = subprocess.run(words, cwd=room, stdin=subprocess.DEVNULL, stdout=subprocess.PIPE, stderr=subprocess.STDOUT, text=True, errors="replace")
+    return ran.stdout, ran.returncode
