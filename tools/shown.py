@@ -159,11 +159,13 @@ def applied(edit, texts, some=None):
 class Log:
     states: dict
     errors: list  # each a file, its place and the text
+    opened: dict  # of a function the goals that are not proved, each with its place in src/
     reached: bool
 
 
-def log_of(said):
-    states, errors = {}, []
+def log_of(said, texts, crate):
+    """What the prover said of the crate with these texts."""
+    states, errors, opened, lines = {}, [], {}, {}
     for line in said.split("\n"):
         fn = re.match(r"fn (\S+): (.*)", line)
         error = re.match(r"(?:\./)?((?:src|specs|proofs)/\S+?):(\d+:\d+): error: (.*)", line)
@@ -171,7 +173,13 @@ def log_of(said):
             states[fn[1]] = fn[2]
         elif error:
             errors.append((error[1], error[2], error[3]))
-    return Log(states, errors, re.search(r"^logic=not-proved", said, re.M) is not None)
+        note = re.match(r"note: (src/\S+?):(\d+):(\d+): (it is not proved that .*)", line)
+        if note and note[1] in texts:
+            if note[1] not in lines:
+                lines[note[1]] = owners(texts[note[1]])
+            _, name = lines[note[1]][int(note[2]) - 1]
+            opened.setdefault(f"{module(crate, note[1])}::{name}", []).append(f"{note[1]}:{note[2]}:{note[3]}: {note[4]}")
+    return Log(states, errors, opened, re.search(r"^logic=not-proved", said, re.M) is not None)
 
 
 def cycles(texts):
@@ -235,10 +243,12 @@ def show(edit, name, log, texts):
             return "", "the log has no such function", []
         open_goals = re.search(r"`search` did not prove .*", state)
         first = first or (f"no proof: {open_goals[0].partition('; it calls')[0]}" if open_goals and re.match(r"no proof|not proved", state) else "")
+        false = [it for it in log.opened.get(name, []) if "allow values at which" in it]
+        first = next(iter(false), "") if false and (not first or unfit) else first or next(iter(log.opened.get(name, [])), "")
         waits += bool(re.search(r"it calls .*, which (is|are) not proved|waits? for", state))
     if first:
         if unfit:
-            notes.append(f"{len(unfit)} of its errors say only that the proof no longer fits")
+            notes.append(f"{len(unfit)} more of its errors say only that the proof no longer fits")
         was, now = (" ".join(it) for it in ([pair.old for pair in edit.pairs if pair.of == name], [pair.new for pair in edit.pairs if pair.of == name]))
         if shape(was) != shape(now):
             notes.append("the code has another shape now, a branch, call or statement more or less: read its error")
