@@ -1,25 +1,31 @@
 // Answers rows of 24 bytes from standard input with replies of 88 on standard output, 512 rows at a time.
 // Standard error has what was not answered and why: bytes after the last whole row, a failed read, a failed write.
-use libc::STDOUT_FILENO;
+#![tactic(auto)]
 
 // The loop ends by this number of rows, which no run reaches.
 const MOST: u64 = 0xffff_ffff_ffff_0000;
 
 // A page of rows: read, answered, written. Answers whether to go on.
-fn turn(rows: &mut [u8], replies: &mut [u8], done: u64) -> bool {
-    let reading = stdio::read_until_full(b"answers: standard input", rows);
+fn turn(rt: HostRuntime, rows: &mut [u8], replies: &mut [u8], done: u64) -> bool {
+    let reading = stdio::read_until_full(rt, b"answers: standard input", &mut rt.stdin(), rows);
     let have = reading.have;
     let stop = reading.stop;
     let n = entries::answer_rows(&rows[..have], replies);
-    if !stdio::send(b"answers: writing", STDOUT_FILENO, &replies[..88 * n]) {
+    if !stdio::send(
+        rt,
+        b"answers: writing",
+        &mut rt.stdout(),
+        &replies[..88 * n],
+    ) {
         return false;
     }
-    let by_now = std::num::wrapping_add_u64(done, n as u64);
-    pages::go_on(b"answers: rows ", stop, by_now, (have % 24) as u64)
+    let by_now = done.wrapping_add(n as u64);
+    pages::go_on(rt, b"answers: rows ", stop, by_now, (have % 24) as u64)
 }
 
-fn main() {
+fn main(rt: HostRuntime) {
     if stdio::from_terminal(
+        rt,
         b"answers: the answer of each row: reads rows of 24 bytes (entry, number, two f64) from a file or a pipe, not from a terminal\n",
     ) {
         return;
@@ -28,7 +34,7 @@ fn main() {
     let mut replies = [0u8; 45056];
     let mut done: u64 = 0;
     while done < MOST {
-        if !turn(&mut rows, &mut replies, done) {
+        if !turn(rt, &mut rows, &mut replies, done) {
             return;
         }
         done += 512;

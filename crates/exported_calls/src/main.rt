@@ -1,11 +1,12 @@
 // Calls the exported functions of region3_c themselves: rows of 24 bytes from standard input as `answers` has them, and for each on standard output
 // the 88 bytes of what the call wrote. The entry's number says which function is meant; 31 stands for the column run on columns of given lengths.
 // What a call is to write is found full of a number that no call answers.
+#![tactic(auto)]
+
 ghost use Rattle.std.specs.Prelude.{◌≤◌};
 
 use buffer::{byte_at, float_at, int_at};
 use common::least;
-use libc::STDOUT_FILENO;
 use reply::{Reply, put_reply};
 
 // The loop ends by this number of rows, which no run reaches.
@@ -221,26 +222,37 @@ fn reply_to(row: &[u8]) -> [u8; 88] {
 }
 
 // One turn: a row and its reply. Answers whether to go on.
-fn turn(done: u64) -> bool {
+fn turn(rt: HostRuntime, done: u64) -> bool {
     let mut row = [0u8; 24];
-    let reading = stdio::read_until_full(b"exported_calls: standard input", &mut row);
+    let reading = stdio::read_until_full(
+        rt,
+        b"exported_calls: standard input",
+        &mut rt.stdin(),
+        &mut row,
+    );
     let have = reading.have;
     let stop = reading.stop;
-    if !pages::go_on(b"exported_calls: rows ", stop, done, have as u64) {
+    if !pages::go_on(rt, b"exported_calls: rows ", stop, done, have as u64) {
         return false;
     }
-    stdio::send(b"exported_calls: writing", STDOUT_FILENO, &reply_to(&row))
+    stdio::send(
+        rt,
+        b"exported_calls: writing",
+        &mut rt.stdout(),
+        &reply_to(&row),
+    )
 }
 
-fn main() {
+fn main(rt: HostRuntime) {
     if stdio::from_terminal(
+        rt,
         b"exported_calls: what each exported call writes: reads rows of 24 bytes (entry, number, two f64) from a file or a pipe, not from a terminal\n",
     ) {
         return;
     }
     let mut done: u64 = 0;
     while done < MOST {
-        if !turn(done) {
+        if !turn(rt, done) {
             return;
         }
         done += 1;

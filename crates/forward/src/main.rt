@@ -1,9 +1,10 @@
 // Writes exchange records: rows of 24 bytes from standard input (pair, room, fill byte, two f64), for each 48 bytes on standard output, its refusal and its room.
 // Standard error has what was not answered and why: bytes after the last whole row, a failed read, a failed write.
+#![tactic(auto)]
+
 use buffer::{byte_at, float_at};
 use common::least;
 use exchange_entry::write_by;
-use libc::STDOUT_FILENO;
 
 // The loop ends by this number of rows, which no run reaches.
 const MOST: u64 = 0xffff_ffff_ffff_ffff;
@@ -34,26 +35,27 @@ fn reply(row: &[u8]) -> [u8; 48] {
 }
 
 // One turn: a row and its reply. Answers whether to go on.
-fn turn(done: u64) -> bool {
+fn turn(rt: HostRuntime, done: u64) -> bool {
     let mut row = [0u8; 24];
-    let reading = stdio::read_until_full(b"forward: standard input", &mut row);
+    let reading = stdio::read_until_full(rt, b"forward: standard input", &mut rt.stdin(), &mut row);
     let have = reading.have;
     let stop = reading.stop;
-    if !pages::go_on(b"forward: rows ", stop, done, have as u64) {
+    if !pages::go_on(rt, b"forward: rows ", stop, done, have as u64) {
         return false;
     }
-    stdio::send(b"forward: writing", STDOUT_FILENO, &reply(&row))
+    stdio::send(rt, b"forward: writing", &mut rt.stdout(), &reply(&row))
 }
 
-fn main() {
+fn main(rt: HostRuntime) {
     if stdio::from_terminal(
+        rt,
         b"forward: the exchange record of each row: reads rows of 24 bytes (pair, room, fill byte, two f64) from a file or a pipe, not from a terminal\n",
     ) {
         return;
     }
     let mut done: u64 = 0;
     while done < MOST {
-        if !turn(done) {
+        if !turn(rt, done) {
             return;
         }
         done += 1;
