@@ -1,5 +1,7 @@
 // The sums over a table whose terms are differentiated, each by itself, by two tables of powers. A sum goes to the end of the shortest column; an exponent
 // that has no place in a table of powers makes it a NaN, so that nothing is asked of a caller.
+#![tactic(auto)]
+
 ghost use Rattle.std.specs.Prelude.{◌≡◌};
 ghost use Rattle.algo.specs.Table.{rows_of};
 ghost use Rattle.algo.specs.Raw.{fallen_by, tabled_factor, Summed};
