@@ -1,9 +1,7 @@
 -- Each printed table is the Rust's, digit by digit and row by row: its pin (common/proofs/Pin.antt), computed of the definition, is the
 -- number that tools/pins.py works from the text of the Rust. Written by that script.
-use Prim.Native.Nat.{ℕ}
 use mathlib.Core.Path.{◌≡◌, refl}
-use mathlib.Core.List.{List, [], ◌∷◌}
-use lib.Ieee.{Float}
+use mathlib.Core.List.{[], ◌∷◌}
 use Rattle.common.specs.Decimal.{plus, minus, scaled}
 use Rattle.common.proofs.Pin.{pin_from, pin_numbers}
 use Rattle.algo.proofs.Pin.{pin_rows}
