@@ -1,4 +1,6 @@
 // Where the volume at (p,T) comes from: the critical point, or the equation of the letter (the Rust's region3_v_pT).
+#![tactic(auto)]
+
 ghost use Rattle.std.specs.Prelude.{◌≡◌};
 ghost use Rattle.std.specs.Float.Ieee.{lt};
 ghost use Rattle.common.specs.Formula.{size_of};

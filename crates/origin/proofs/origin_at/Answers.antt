@@ -2,7 +2,6 @@
 use mathlib.Core.Path.{◌≡◌, sym, ◌∙◌}
 use mathlib.Core.Bool.{true, false}
 use lib.Ieee.{Float, binary64, sub, lt, of_bits, round}
-use borrow.Author.Rules.{rules}
 use Rattle.common.specs.Outcome.{value, refused, check}
 use Rattle.common.specs.Formula.{size_of}
 use Rattle.common.specs.Decimal.{decimal, whole, scaled}
@@ -10,7 +9,7 @@ use Rattle.common.specs.Constant.{t_tol, p_tol, tc_water, pc_water}
 use Rattle.common.proofs.Laws.{Lost, check_kept, check_lost}
 use Rattle.record.specs.declared.Origin.TheVariants.{Critical}
 use Rattle.origin.specs.Origin.{lettered_at, origin_at}
-use Rattle.origin.proofs.origin_at as own
+use Rattle.origin.proofs.origin_at.Goals as goal
 
 module _ (p t : Float) where
   abbrev dt : Float
@@ -41,50 +40,34 @@ module _ (p t : Float) where
       unfolding origin_at
       p_near kept-p near = rw (kept-t, t-near, kept-p, near)
 
-returns : own.Tie.Need-returns
+pub returns-then-is_small-2 : goal.returns-then-is_small-2
 unfolding of_bits decimal whole scaled round
-returns c =
-    let k3 = c.before.before in
-    let k2 = k3.before.before.before in
-    let k1 = k2.before.before in
+returns-then-is_small-2 c =
     sym (p_near _ _
-    (check_kept _ (sym k1.before.is_finite.ensures ∙ k1.if1.true)) (sym k2.before.is-small.ensures ∙ k2.if2.true)
-    (check_kept _ (sym k3.before.is-finite2.ensures ∙ k3.if3.true)) (sym c.before.is-small2.ensures ∙ c.if4.true))
+    (check_kept _ (sym c.is_finite.ensures ∙ c.if-is_finite.true)) (sym c.is_small.ensures ∙ c.if-is_small.true)
+    (check_kept _ (sym c.is_finite-then-is_small.ensures ∙ c.if-is_finite-2.true)) (sym c.is_small-then-is_finite-2.ensures ∙ c.if-is_small-2.true))
 
-returns-2 : own.Tie.Need-returns-2
+pub returns-then-is_finite-2 : goal.returns-then-is_finite-2
 unfolding of_bits decimal whole scaled round
-returns-2 c =
-    let k4 = c.before in
-    let k3 = k4.before.before in
-    let k2 = k3.before.before.before in
-    let k1 = k2.before.before in
+returns-then-is_finite-2 c =
     c.lettered.ensures
     ∙ sym (p_far _ _
-    (check_kept _ (sym k1.before.is_finite.ensures ∙ k1.if1.true)) (sym k2.before.is-small.ensures ∙ k2.if2.true)
-    (check_kept _ (sym k3.before.is-finite2.ensures ∙ k3.if3.true)) (sym k4.before.is-small2.ensures ∙ k4.if4.false))
+    (check_kept _ (sym c.is_finite.ensures ∙ c.if-is_finite.true)) (sym c.is_small.ensures ∙ c.if-is_small.true)
+    (check_kept _ (sym c.is_finite-then-is_small.ensures ∙ c.if-is_finite-2.true)) (sym c.is_small-then-is_finite-2.ensures ∙ c.if-is_small-2.false))
 
-returns-3 : own.Tie.Need-returns-3
+pub returns-then-is_small : goal.returns-then-is_small
 unfolding of_bits decimal whole scaled round
-returns-3 c =
-    let k2 = c.before.before.before in
-    let k1 = k2.before.before in
+returns-then-is_small c =
     sym (p_lost _ _
-    (check_kept _ (sym k1.before.is_finite.ensures ∙ k1.if1.true)) (sym k2.before.is-small.ensures ∙ k2.if2.true)
-    (sym c.before.is-finite2.ensures ∙ c.if3.false))
+    (check_kept _ (sym c.is_finite.ensures ∙ c.if-is_finite.true)) (sym c.is_small.ensures ∙ c.if-is_small.true)
+    (sym c.is_finite-then-is_small.ensures ∙ c.if-is_finite-2.false))
 
-returns-4 : own.Tie.Need-returns-4
+pub returns-then-is_finite : goal.returns-then-is_finite
 unfolding of_bits decimal whole scaled round
-returns-4 c =
-    let k2 = c.before in
-    let k1 = k2.before.before in
-    c.lettered2.ensures
-    ∙ sym (t_far _ _ (check_kept _ (sym k1.before.is_finite.ensures ∙ k1.if1.true)) (sym k2.before.is-small.ensures ∙ k2.if2.false))
+returns-then-is_finite c =
+    c.lettered-then-is_finite.ensures
+    ∙ sym (t_far _ _ (check_kept _ (sym c.is_finite.ensures ∙ c.if-is_finite.true)) (sym c.is_small.ensures ∙ c.if-is_small.false))
 
-returns-5 : own.Tie.Need-returns-5
+pub returns : goal.returns
 unfolding of_bits decimal whole scaled round
-returns-5 c = sym (t_lost _ _ (sym c.before.is_finite.ensures ∙ c.if1.false))
-
-pub origin_at_spec : {M : Type 1} → own.Statement.statement M
-origin_at_spec =
-    own.Tie.close (own.Tie.spec (λ c κs. search rules) (λ c κs. search rules) (λ c κs. search rules) (λ c κs. search rules) returns (λ c κs. search rules)
-    returns-2 returns-3 (λ c κs. search rules) returns-4 returns-5)
+returns c = sym (t_lost _ _ (sym c.is_finite.ensures ∙ c.if-is_finite.false))
