@@ -1,5 +1,7 @@
 // The sums over a table that share an item of each row, multiply it by its exponents, and are divided once at their end: two or four at a time, by two
 // tables of powers. A sum goes to the end of the shortest column; an exponent that has no place in a table of powers makes it a NaN.
+#![tactic(auto)]
+
 ghost use Rattle.std.specs.Prelude.{◌≡◌, pos, ◌-ℤ◌};
 ghost use Rattle.std.specs.Float.{binary64};
 ghost use Rattle.std.specs.Float.Ieee.{of_int};
