@@ -7,6 +7,7 @@ import os
 import shutil
 import subprocess
 import sys
+import tempfile
 from pathlib import Path
 
 TOP = Path(__file__).resolve().parent.parent
@@ -106,3 +107,46 @@ def snippet(name, text_files, deps, room):
     words += ["--antt-project", f"{kit}/rattle/logic/antt-project.json", "--logic-built", f"{kit}/logic_built", "--jobs", "1", "--only", ""]
     ran = subprocess.run(words, cwd=room, stdin=subprocess.DEVNULL, stdout=subprocess.PIPE, stderr=subprocess.STDOUT, text=True, errors="replace")
     return ran.stdout, ran.returncode
+
+
+def build_archive(crate, archive, module=None):
+    """Proves and builds a static library over the libraries below it, which stand, and with `module` keeps a copy of the LLVM module that rattle hands to
+    its compiler. What was said, and the status."""
+    with tempfile.TemporaryDirectory(prefix="archive-") as room:
+        toolchain = f"{rt.KIT}/toolchain"
+        if module:
+            # a toolchain like the kit's but for its clang, which keeps the module
+            own = Path(room, "toolchain")
+            (own / "bin").mkdir(parents=True)
+            for part in Path(toolchain).iterdir():
+                if part.name != "bin":
+                    (own / part.name).symlink_to(part)
+            for part in Path(toolchain, "bin").iterdir():
+                if part.name != "clang":
+                    (own / "bin" / part.name).symlink_to(part)
+            (own / "bin/clang").write_text(f"#!/bin/sh\nfor word in \"$@\"; do case $word in *.bc | *.ll) cp \"$word\" '{module}' ;; esac; done\nexec '{toolchain}/bin/clang' \"$@\"\n")
+            (own / "bin/clang").chmod(0o755)
+            toolchain = str(own)
+        words = [rt.rtlib.RATTLE, "build", *crate.words(["--jobs", "2"], keeps=False), "--toolchain", toolchain, "--backend", "llvm", "-o", str(archive)]
+        ran = subprocess.run([*rt.rtlib.guarded(), *words], cwd=crate.folder, stdin=subprocess.DEVNULL, stdout=subprocess.PIPE, stderr=subprocess.STDOUT, text=True, errors="replace")
+    return ran.stdout, ran.returncode
+
+
+def main(words):
+    """python3 tools/kit.py build [--after-ci]: builds what is not built of the libraries; snippet FOLDER CRATE..: compiles FOLDER/src, and says what rattle says."""
+    every = crates()
+    if words[:1] == ["build"]:
+        lost = build_below([it for it in every.values()], "--after-ci" in words)
+        for name in lost:
+            print(f"{name} is not proved")
+        return 1 if lost else 0
+    if words[:1] == ["snippet"] and len(words) > 2:
+        said, status = snippet("snippet", {}, [every[name] for name in words[2:]], words[1])
+        print(said, end="")
+        return status
+    print(main.__doc__, file=sys.stderr)
+    return 2
+
+
+if __name__ == "__main__":
+    sys.exit(main(sys.argv[1:]))

@@ -1,5 +1,4 @@
-/* Region 3 of IAPWS-IF97: the functions of libregion3_c.a, which `rt staticlib region3_c` writes for x86-64 Linux and tools/native for the
- * host's own processor.
+/* Region 3 of IAPWS-IF97: the functions of libregion3_c.a, which tools/staticlib writes for x86-64 Linux and `tools/native aarch64` for aarch64 Linux.
  *
  * Units: p in MPa, t in K, d in kg/m3, v in m3/kg, h in kJ/kg, s in kJ/(kg K).
  *

@@ -1,5 +1,5 @@
-// Finds libregion3_c.a: in the folder that REGION3_LIB names, else in the repository's target/staticlib (x86-64 Linux, written by
-// `rt staticlib region3_c`) or target/native (another processor, written by tools/native). The archive must be for the target's processor and of
+// Finds libregion3_c.a: in the folder that REGION3_LIB names, else in the repository's out/staticlib (x86-64 Linux, written by
+// tools/staticlib) or out/native/aarch64 (written by `tools/native aarch64`). The archive must be for the target's processor and of
 // this crate's version. Where there is none a warning says why, and what needs no archive (`cargo doc`, `cargo check`) goes on; what links is given a
 // library that is nowhere, whose name is the reason, so that the error says it in a quiet build too.
 use std::env;
@@ -10,7 +10,7 @@ const ARCHIVE: &str = "libregion3_c.a";
 
 // The processors that an archive can be for: cargo's name, ELF's number, and who makes it in which folder of the repository.
 const SERVED: [(&str, u16, &str, &str); 2] =
-    [("x86_64", 62, "rt staticlib region3_c", "target/staticlib"), ("aarch64", 183, "tools/native", "target/native")];
+    [("x86_64", 62, "tools/staticlib", "out/staticlib"), ("aarch64", 183, "tools/native aarch64", "out/native/aarch64")];
 
 // The archive has a function of this name and its version: r3_library_version_0_3_0.
 const VERSION: &[u8] = b"r3_library_version_";
@@ -55,7 +55,7 @@ fn version(bytes: &[u8]) -> Option<String> {
 fn found() -> Result<PathBuf, String> {
     let (arch, os) = (of("CARGO_CFG_TARGET_ARCH"), of("CARGO_CFG_TARGET_OS"));
     let &(_, number, maker, place) = SERVED.iter().find(|s| os == "linux" && s.0 == arch).ok_or(format!(
-        "the target {} is not served: the library is built for x86_64 Linux, and for aarch64 Linux by tools/native",
+        "the target {} is not served: the library is built for x86_64 Linux, and for aarch64 Linux by `tools/native aarch64`",
         of("TARGET")
     ))?;
     let places = folders(place);
