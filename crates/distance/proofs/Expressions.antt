@@ -11,7 +11,6 @@ use lib.Dec.{T, leb, eqb, leb→le, eqb→eq}
 use lib.Pow.{pow-add, pow_pos}
 use lib.Ieee.{Float, binary64, add, sub, mul, neg}
 use lib.Ieee.Fits.{and_l, and_r}
-use lib.Ieee.Positive.{positive}
 use Rattle.common.specs.Outcome.{Outcome, check, then, zero_f}
 use Rattle.common.specs.Decimal.{scaled, decimal, tens, tenths}
 use Rattle.common.specs.Sum.{raw_total, every}
