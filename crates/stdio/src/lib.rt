@@ -2,9 +2,8 @@
 // What was read is known where the reader's bytes are, what was written where the writer's are; of standard input and output nothing is known.
 #![tactic(auto)]
 
-ghost use Rattle.std.specs.Prelude.{◌≡◌, length, take, IsTrue};
+ghost use Rattle.std.specs.Prelude.{◌≡◌, ◌≤◌, length, take, IsTrue};
 ghost use Rattle.std.specs.Io.KnownBytes.{Appends, Consumes, IsAtEnd};
-ghost use Rattle.stdio.specs.Counts.{IsPrefixLen};
 
 use std::io::{Cursor, Error, IsTerminal, Read, Write};
 
@@ -30,7 +29,8 @@ pub fn read_until_full<R: Read>(
     input: &mut R,
     bytes: &mut [u8],
 ) -> Reading
-    ensures have { IsPrefixLen result.have bytes.new }
+    ensures within { result.have ≤ length bytes.new }
+    ensures have { result.have ≡ length (take result.have bytes.new) }
     ensures gathered { Consumes (R.remaining input.old) (R.remaining input.new) (take result.have bytes.new) }
     ensures full { result.stop ≡ Stop.Full → result.have ≡ length bytes.new }
     ensures ended { result.stop ≡ Stop.Ended → IsAtEnd (R.remaining input.new) }
