@@ -1,5 +1,7 @@
 // The basic equation of region 3, R7-97(2012) equation 28: the dimensionless Helmholtz free energy φ and its derivatives, each by itself and the
 // joint sums (r3/region3_hfe.rs). Each gives its rule's number, or a NaN where a step is lost.
+#![tactic(auto)]
+
 mod region3_hfe;
 
 pub use region3_hfe::{

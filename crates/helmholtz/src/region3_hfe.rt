@@ -182,7 +182,7 @@ pub fn polys_i_j_powi_reg3(delta: f64, tau: f64) -> DeltaTau
 }
 
 // φ_δ, φ_δδ, φ_δτ and φ_ττ by one sum.
-#[derive(Drop)]
+#[derive(Clone, Copy)]
 pub struct Slopes {
     pub delta: f64,
     pub deltadelta: f64,

@@ -1,0 +1,12 @@
+-- `helmholtz::region3_hfe::phi_delta_reg3`: the proof is the formula, tested once at its end.
+use Rattle.common.proofs.Formulas.{raw_check, named, ◌+ʳ◌, ◌/ʳ◌}
+use lib.Ieee.{of_bits}
+use Rattle.common.specs.Decimal.{scaled, plus}
+use Rattle.helmholtz.specs.Hfe.{phi_delta}
+use Rattle.helmholtz.proofs.Steps.{n₁}
+use Rattle.common.proofs.Numbers.{tested}
+use Rattle.helmholtz.proofs.region3_hfe.phi_delta_reg3.Goals as goal
+
+pub returns : goal.returns
+unfolding of_bits plus scaled phi_delta
+returns c = tested (named c.over.ensures (n₁ /ʳ raw_check c.args.delta) +ʳ c.sum.ensures.raw) c.finite_or_nan.ensures
