@@ -1,5 +1,7 @@
 // The properties at a temperature and a density by the basic equation: R7-97(2012), table 31 (`region3_Td`), and the first number of two that
 // is lost (`lost`). The checks of the box are the callers'.
+#![tactic(auto)]
+
 mod lost;
 mod region3_Td;
 

@@ -3,17 +3,16 @@ use Rattle.common.proofs.Formulas.{raw_value, raw_check, named, ◌+ʳ◌, ◌-�
 use mathlib.Core.Path.{refl}
 use lib.Ieee.{of_bits, binary64}
 use lib.Ieee.Fits.{mul-fits}
-use borrow.Author.Rules.{rules}
 use Rattle.common.specs.Decimal.{decimal, whole, scaled}
 use Rattle.inverses.proofs.Formulas.{raw_root_of}
 use Rattle.helmholtz.proofs.Steps.{R}
 use Rattle.common.proofs.Numbers.{tested}
-use Rattle.properties.proofs.region3_Td.w_over as own
+use Rattle.properties.proofs.region3_Td.w_over.Goals as goal
 
-returns : own.Tie.Need-returns
+pub returns : goal.returns
 unfolding of_bits decimal whole scaled
 returns c =
-    let g = c.before.before.before.before.before.before.before.before.before.args in
+    let g = c.args in
     let φ = g.phi in
     let T = raw_check g.t.0 in
     let δ = raw_check g.delta in
@@ -22,8 +21,5 @@ returns c =
     let two = raw_value (whole 2) refl in
     let a = δ *ʳ φδ -ʳ δ *ʳ τ *ʳ raw_check φ.deltatau in
     let below = τ *ʳ τ *ʳ raw_check φ.tautau in
-    let sum = two *ʳ δ *ʳ φδ +ʳ δ *ʳ δ *ʳ raw_check φ.deltadelta -ʳ named c.before.before.over.ensures (a *ʳ a /ʳ below) in
-    tested (named c.before.raw-root.ensures (raw_root_of (mul-fits binary64 _ _) (raw_value (whole 1000) refl *ʳ R *ʳ T *ʳ sum))) c.finite-or-nan.ensures
-
-pub w_over_spec : {M : Type 1} → own.Statement.statement M
-w_over_spec = own.Tie.close (own.Tie.spec (λ c κs. search rules) (λ c κs. search rules) (λ c κs. search rules) returns)
+    let sum = two *ʳ δ *ʳ φδ +ʳ δ *ʳ δ *ʳ raw_check φ.deltadelta -ʳ named c.over.ensures (a *ʳ a /ʳ below) in
+    tested (named c.raw_root.ensures (raw_root_of (mul-fits binary64 _ _) (raw_value (whole 1000) refl *ʳ R *ʳ T *ʳ sum))) c.finite_or_nan.ensures

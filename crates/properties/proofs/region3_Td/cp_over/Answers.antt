@@ -2,23 +2,19 @@
 use Rattle.common.proofs.Formulas.{raw_value, raw_check, raw_minus, named, ◌+ʳ◌, ◌-ʳ◌, ◌*ʳ◌, ◌/ʳ◌}
 use mathlib.Core.Path.{refl}
 use lib.Ieee.{of_bits}
-use borrow.Author.Rules.{rules}
 use Rattle.common.specs.Decimal.{decimal, whole, scaled}
 use Rattle.helmholtz.proofs.Steps.{R}
 use Rattle.common.proofs.Numbers.{tested}
-use Rattle.properties.proofs.region3_Td.cp_over as own
+use Rattle.properties.proofs.region3_Td.cp_over.Goals as goal
 
-returns : own.Tie.Need-returns
+pub returns : goal.returns
 unfolding of_bits decimal whole scaled
 returns c =
-    let g = c.before.before.before.before.before.before.before.args in
+    let g = c.args in
     let φ = g.phi in
     let δ = raw_check g.delta in
     let τ = raw_check g.tau in
     let φδ = raw_check φ.delta in
     let a = δ *ʳ (φδ -ʳ τ *ʳ raw_check φ.deltatau) in
     let b = δ *ʳ (raw_value (whole 2) refl *ʳ φδ +ʳ δ *ʳ raw_check φ.deltadelta) in
-    tested (R *ʳ (raw_minus τ *ʳ τ *ʳ raw_check φ.tautau +ʳ named c.before.over.ensures (a *ʳ a /ʳ b))) c.finite-or-nan.ensures
-
-pub cp_over_spec : {M : Type 1} → own.Statement.statement M
-cp_over_spec = own.Tie.close (own.Tie.spec (λ c κs. search rules) (λ c κs. search rules) returns)
+    tested (R *ʳ (raw_minus τ *ʳ τ *ʳ raw_check φ.tautau +ʳ named c.over.ensures (a *ʳ a /ʳ b))) c.finite_or_nan.ensures
