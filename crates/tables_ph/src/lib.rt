@@ -1,4 +1,6 @@
 // The tables of the equations in (p,h) of S03rev by column, and the sum of each.
+#![tactic(auto)]
+
 ghost use Rattle.std.specs.Prelude.{◌≡◌};
 ghost use Rattle.common.specs.Outcome.{or_nan};
 ghost use Rattle.algo.specs.Table.{sum_rule, term};
