@@ -1,4 +1,6 @@
 // The tables of the equations in (p,s) of S03rev and in (h,s) of S04rev by column, and the sum of each.
+#![tactic(auto)]
+
 ghost use Rattle.std.specs.Prelude.{◌≡◌};
 ghost use Rattle.common.specs.Outcome.{or_nan};
 ghost use Rattle.algo.specs.Table.{sum_rule, term};
