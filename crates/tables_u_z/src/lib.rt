@@ -1,4 +1,6 @@
 // Tables of S05rev by column, and the sum of each.
+#![tactic(auto)]
+
 ghost use Rattle.std.specs.Prelude.{◌≡◌};
 ghost use Rattle.common.specs.Outcome.{or_nan};
 ghost use Rattle.algo.specs.Table.{sum_rule, term};

@@ -1,14 +1,16 @@
 -- `tables_u_z::sum_v` meets its contract: antt computes that the columns are the table's, the bits of each literal those of its decimal.
 use lib.Ieee.{of_bits}
-use borrow.Author.Rules.{rules}
 use Rattle.common.specs.Sum.{every}
 use Rattle.common.specs.Decimal.{plus, minus, scaled}
 use Rattle.algo.specs.Table.{rows_of}
 use Rattle.table_sums.proofs.Constant.{bare_ends, rule_ends}
 use Rattle.printed.specs.Volumes.{table3v}
-use Rattle.tables_u_z.proofs.sum_v as own
+use Rattle.tables_u_z.proofs.sum_v.Goals as goal
 
-pub sum_v_spec : {M : Type 1} → own.Statement.statement M
+pub returns-then-both_usual : goal.returns-then-both_usual
 unfolding rows_of every plus minus scaled of_bits table3v
-sum_v_spec =
-    own.Tie.close (own.Tie.spec (λ c κs. search rules) (λ c κs. search rules) (λ c. search bare_ends) (λ c κs. search rules) (λ c. search rule_ends))
+returns-then-both_usual c = search bare_ends
+
+pub returns : goal.returns
+unfolding rows_of every plus minus scaled of_bits table3v
+returns c = search rule_ends
