@@ -17,7 +17,8 @@ returns c =
     let four = raw_value (whole 4) refl in
     let N9 = raw_value (or_nan n9) refl in
     let N10 = raw_value (or_nan n10) refl in
-    let β = named c.raw_root-2.ensures (raw_root_of (subst T (sym c.raw_root.type_inv) tt) (named c.raw_root.ensures (raw_root_from p (subst T (sym c.well_formed.0.1) tt)))) in
+    let first = named c.raw_root.ensures (raw_root_from p (subst T (sym c.well_formed.0.1) tt)) in
+    let β = named c.raw_root-2.ensures (raw_root_of (subst T (sym c.raw_root.type_inv) tt) first) in
     let D = c.quotient_d-d.ensures _ β in
     let square = (N10 +ʳ D) *ʳ (N10 +ʳ D) -ʳ four *ʳ (N9 +ʳ N10 *ʳ D) in
     raw_value (decimal 0_5 1) refl *ʳ (N10 +ʳ D -ʳ named c.raw_root-3.ensures (raw_root_of (sub-fits binary64 _ _) square))

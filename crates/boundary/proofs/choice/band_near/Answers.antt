@@ -6,7 +6,9 @@ use Rattle.boundary.proofs.choice.band_near.Goals as goal
 
 pub returns-then-p : goal.returns-then-p
 unfolding decimal scaled round of_bits
-returns-then-p c = rw (← c.bare_boundary-tuv.ensures, ← c.raw_boundary-twx.ensures, ← c.raw_boundary-tef.ensures, c.if-p.true) (if_one _ c.answered.ensures c.by_uvwx.ensures)
+returns-then-p c =
+    rw (← c.bare_boundary-tuv.ensures, ← c.raw_boundary-twx.ensures, ← c.raw_boundary-tef.ensures, c.if-p.true)
+    (if_one _ c.answered.ensures c.by_uvwx.ensures)
 
 pub returns : goal.returns
 unfolding decimal scaled round of_bits

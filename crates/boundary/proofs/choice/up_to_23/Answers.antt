@@ -16,11 +16,14 @@ returns-then-x-2 c h = rw (limit_is, c.if-x.false, c.if-x-2.true, cq_rk_raw _ _ 
 
 pub returns-then-x-3 : goal.returns-then-x-3
 unfolding decimal whole scaled round of_bits
-returns-then-x-3 c h = rw (limit_is, c.if-x.false, c.if-x-2.false, c.if-x-3.true, csrk_raw _ _ (middle _ _ _ tt tt tt tt c.if-x-3.true h)) c.band_csrk.ensures
+returns-then-x-3 c h =
+    rw (limit_is, c.if-x.false, c.if-x-2.false, c.if-x-3.true, csrk_raw _ _ (middle _ _ _ tt tt tt tt c.if-x-3.true h)) c.band_csrk.ensures
 
 pub returns-then-x-4 : goal.returns-then-x-4
 unfolding decimal whole scaled round of_bits
-returns-then-x-4 c h = rw (limit_is, c.if-x.false, c.if-x-2.false, c.if-x-3.false, c.if-x-4.true, cst_raw _ _ (middle _ _ _ tt tt tt tt c.if-x-4.true h)) c.band_cst.ensures
+returns-then-x-4 c h =
+    rw (limit_is, c.if-x.false, c.if-x-2.false, c.if-x-3.false, c.if-x-4.true, cst_raw _ _ (middle _ _ _ tt tt tt tt c.if-x-4.true h))
+    c.band_cst.ensures
 
 pub returns : goal.returns
 unfolding decimal whole scaled round of_bits

@@ -14,11 +14,15 @@ returns-then-x c = rw (limit_is, c.if-x.true, cdef_raw) c.band_cdef.ensures
 
 pub returns-then-x-2 : goal.returns-then-x-2
 unfolding decimal whole scaled round of_bits
-returns-then-x-2 c = rw (limit_is, c.if-x.false, c.if-x-2.true, chijk_raw _ _ (middle _ _ _ tt tt tt tt c.if-x-2.true c.if-x.false) _) (ap value c.band_chijk.ensures)
+returns-then-x-2 c =
+    rw (limit_is, c.if-x.false, c.if-x-2.true, chijk_raw _ _ (middle _ _ _ tt tt tt tt c.if-x-2.true c.if-x.false) _)
+    (ap value c.band_chijk.ensures)
 
 pub returns-then-x-3 : goal.returns-then-x-3
 unfolding decimal whole scaled round of_bits
-returns-then-x-3 c = rw (limit_is, c.if-x.false, c.if-x-2.false, c.if-x-3.true, chijk_raw _ _ (middle _ _ _ tt tt tt tt c.if-x-3.true c.if-x.false) _) (ap value c.band_chijk-then-x-3.ensures)
+returns-then-x-3 c =
+    rw (limit_is, c.if-x.false, c.if-x-2.false, c.if-x-3.true, chijk_raw _ _ (middle _ _ _ tt tt tt tt c.if-x-3.true c.if-x.false) _)
+    (ap value c.band_chijk-then-x-3.ensures)
 
 pub returns : goal.returns
 unfolding decimal whole scaled round of_bits
