@@ -1,4 +1,6 @@
 // The calls of algo/polynomial.rs and algo/polynomial_steps.rs over a caller's columns, each total, with the Rust's names. `column_sums` has the sums.
+#![tactic(auto)]
+
 mod polynomial;
 
 use common::Refusal;

@@ -1,0 +1,29 @@
+-- `polynomial::polys_i_ii_ij_jj_powi` meets its contract.
+use mathlib.Core.Path.{sym, ◌∙◌}
+use mathlib.Core.List.{List}
+use Rattle.algo.specs.Table.{Row, rows_of}
+use Rattle.algo.specs.Joint.{share_rule}
+use Rattle.algo.specs.declared.Order.TheVariants.{Zero}
+use Rattle.algo.specs.declared.Share.{Share}
+use Rattle.algo.specs.declared.Share.TheVariants.{I, Ii, Ij, Jj}
+use Rattle.polynomial.specs.Columns.{four_of, four_table}
+use Rattle.algo.proofs.Settled.{share_settled}
+use Rattle.polynomial.proofs.Lengths.{taken_by, refused_by_lem}
+use Rattle.polynomial.proofs.polynomial.polys_i_ii_ij_jj_powi.Goals as goal
+
+pub returns-then-same_lengths : goal.returns-then-same_lengths
+unfolding four_table
+returns-then-same_lengths c =
+    let a = c.args in
+    let rows = rows_of a.is.now a.js.now a.ns.now in
+    let p = c.raw_four.ensures in
+    let settled : (s : Share) → _ = λ s. share_settled Zero s a.vi a.vj rows in
+    c.settle_four.ensures
+    ∙ (rw (p.0, p.1, p.2, p.3, settled I, settled Ii, settled Ij, settled Jj))
+    ∙ sym (taken_by (λ (rs : List Row). four_of (share_rule Zero I a.vi a.vj rs) (share_rule Zero Ii a.vi a.vj rs) (share_rule Zero Ij a.vi a.vj rs) (share_rule Zero Jj a.vi a.vj rs)) a.is.now a.js.now a.ns.now (sym c.same_lengths.ensures ∙ c.if-same_lengths.true))
+
+pub returns : goal.returns
+unfolding four_table
+returns c =
+    let a = c.args in
+    sym (refused_by_lem (λ (rs : List Row). four_of (share_rule Zero I a.vi a.vj rs) (share_rule Zero Ii a.vi a.vj rs) (share_rule Zero Ij a.vi a.vj rs) (share_rule Zero Jj a.vi a.vj rs)) a.is.now a.js.now a.ns.now (sym c.same_lengths.ensures ∙ c.if-same_lengths.false))
