@@ -1,5 +1,7 @@
 // The property record at a temperature and a density (`Td_reg3`), and at a state that another pair has found (`work_record`). A record is made
 // in one place, `worked_fields`: the caller's own, which goes in by value and comes back with every field replaced, or zeroed by `refuse`.
+#![tactic(auto)]
+
 ghost use Rattle.std.specs.Prelude.{◌≡◌};
 ghost use Rattle.common.specs.Outcome.{check};
 ghost use Rattle.common.specs.Answer.{paper};
