@@ -1,4 +1,4 @@
--- `polynomial::table_sum` meets its contract.
+-- `polynomial::table_sum` meets its contract: the sum settled where the columns are of one length, and a refusal where not.
 use mathlib.Core.Path.{sym, ◌∙◌, ap}
 use Rattle.common.specs.Outcome.{check}
 use Rattle.algo.specs.Table.{rows_of, differentiated, sum_rule}
