@@ -1,4 +1,6 @@
 // The eleven properties beyond table 31 that work no p, at a temperature and a density, by the Rust's formulas. The checks of the box are the callers'.
+#![tactic(auto)]
+
 mod region3_Td_ext;
 
 pub use region3_Td_ext::{
