@@ -8,7 +8,7 @@ use lib.Dec.{eqb}
 use Rattle.subregion.specs.declared.Letter.{Letter}
 use Rattle.subregion.specs.declared.Letter.TheVariants as letters
 use Rattle.distance.specs.Exact.{Polynomial, cd, ef, gh, ij, jk, mn, qu, rx, uv, Q}
-use Rattle.exact_lines.specs.Letter.{Line, in_p_lem, line3ab, line3op, line3wx, saturationLine, exact_band, exact_letter}
+use Rattle.exact_lines.specs.Letter.{Line, in_p, line3ab, line3op, line3wx, saturationLine, exact_band, exact_letter}
 
 -- a number for each line, to tell them apart
 abbrev polynomial_number : Polynomial → ℕ
@@ -23,7 +23,7 @@ polynomial_number rx = 7
 polynomial_number uv = 8
 
 abbrev line_number : Line → ℕ
-line_number (in_p_lem b) = polynomial_number b
+line_number (in_p b) = polynomial_number b
 line_number line3ab = 9
 line_number line3op = 10
 line_number line3wx = 11
@@ -47,17 +47,17 @@ end digits places beyond below lower upper = record { digits = digits; places = 
 
 -- T between 3qu and 3rx, below the lines given
 abbrev near : List Line → List Line
-near bs = in_p_lem rx ∷ in_p_lem jk ∷ bs
+near bs = in_p rx ∷ in_p jk ∷ bs
 
 unfoldable pub ends : List End
 ends =
     end 40 0 true [] letters.F letters.B
     ∷ end 25 0 true [] letters.K letters.F
-    ∷ end 23_5 1 true (in_p_lem gh ∷ []) letters.L letters.G
-    ∷ end 23 0 true (in_p_lem ef ∷ []) letters.N letters.H
-    ∷ end 22_5 1 true (in_p_lem qu ∷ in_p_lem mn ∷ []) letters.Q letters.M
-    ∷ end 22_11 2 true (near (in_p_lem ef ∷ [])) letters.Y letters.«V»
-    ∷ end 22_064 3 true (near (in_p_lem ef ∷ [])) letters.X letters.Y
+    ∷ end 23_5 1 true (in_p gh ∷ []) letters.L letters.G
+    ∷ end 23 0 true (in_p ef ∷ []) letters.N letters.H
+    ∷ end 22_5 1 true (in_p qu ∷ in_p mn ∷ []) letters.Q letters.M
+    ∷ end 22_11 2 true (near (in_p ef ∷ [])) letters.Y letters.«V»
+    ∷ end 22_064 3 true (near (in_p ef ∷ [])) letters.X letters.Y
     ∷ end 21_93161551 8 true (near (saturationLine ∷ [])) letters.U letters.Y
     ∷ end 21_90096265 8 true (near (line3wx ∷ [])) letters.X letters.Z
     ∷ end 20_5 1 false [] letters.T letters.K

@@ -20,7 +20,7 @@ use Rattle.exact_lines.specs.Logarithm.{ln, nested}
 use Rattle.exact_lines.specs.Line.{logarithmic, exact3ab, exact3op, exact3wx}
 use Rattle.exact_lines.specs.Saturation.{saturation, limit}
 use Rattle.exact_lines.specs.Border.{border}
-use Rattle.exact_lines.specs.Letter.{in_p_lem, line3ab, line3op, line3wx, saturationLine, line_at, exact_band, exact_letter}
+use Rattle.exact_lines.specs.Letter.{in_p, line3ab, line3op, line3wx, saturationLine, line_at, exact_band, exact_letter}
 
 -- ---- the lines
 pub record Value : Type 0 where
@@ -44,16 +44,16 @@ pub values : List Value
 unfolding line_at border saturation
 values =
     prints (line_at line3ab (40 * Q) 30) 693_0341408 7
-    ∷ prints (line_at (in_p_lem cd) (25 * Q) 0) 649_3659208 7
-    ∷ prints (line_at (in_p_lem ef) (40 * Q) 0) 713_9593992 7
-    ∷ prints (line_at (in_p_lem gh) (23 * Q) 0) 649_8873759 7
-    ∷ prints (line_at (in_p_lem ij) (23 * Q) 0) 651_5778091 7
-    ∷ prints (line_at (in_p_lem jk) (23 * Q) 0) 655_8338344 7
-    ∷ prints (line_at (in_p_lem mn) (22_8 * Q / 10) 0) 649_6054133 7
+    ∷ prints (line_at (in_p cd) (25 * Q) 0) 649_3659208 7
+    ∷ prints (line_at (in_p ef) (40 * Q) 0) 713_9593992 7
+    ∷ prints (line_at (in_p gh) (23 * Q) 0) 649_8873759 7
+    ∷ prints (line_at (in_p ij) (23 * Q) 0) 651_5778091 7
+    ∷ prints (line_at (in_p jk) (23 * Q) 0) 655_8338344 7
+    ∷ prints (line_at (in_p mn) (22_8 * Q / 10) 0) 649_6054133 7
     ∷ prints (line_at line3op (22_8 * Q / 10) 30) 650_0106943 7
-    ∷ prints (line_at (in_p_lem qu) (22 * Q) 0) 645_6355027 7
-    ∷ prints (line_at (in_p_lem rx) (22 * Q) 0) 648_2622754 7
-    ∷ prints (line_at (in_p_lem uv) (22_3 * Q / 10) 0) 647_7996121 7
+    ∷ prints (line_at (in_p qu) (22 * Q) 0) 645_6355027 7
+    ∷ prints (line_at (in_p rx) (22 * Q) 0) 648_2622754 7
+    ∷ prints (line_at (in_p uv) (22_3 * Q / 10) 0) 647_7996121 7
     ∷ prints (line_at line3wx (22_3 * Q / 10) 30) 648_2049480 7
     ∷ prints (line_at saturationLine (Q / 10) 60) 372_755919 6
     ∷ prints (line_at saturationLine Q 60) 453_035632 6

@@ -23,8 +23,8 @@ pub record Size : Type 0 where
 abbrev none : Size
 none = record { ok = false; size = 0; error = 0 }
 
-abbrev pub sum_of_lem : Size → Size → Size
-sum_of_lem a b = record {
+abbrev pub sum_of : Size → Size → Size
+sum_of a b = record {
   ok = a.ok && b.ok && ltb (sum_size binary64 a.size b.size) (overflow binary64);
   size = sum_size binary64 a.size b.size;
   error = sum_error binary64 a.size a.error b.size b.error;
@@ -41,8 +41,8 @@ unfoldable pub size_of : (ℕ → Size) → Ex → Size
 unfolding constant
 size_of b (con c z) = let k = constant c z in record { ok = k.ok; size = most k; error = k.error }
 size_of b (var i) = b i
-size_of b (sum s t) = sum_of_lem (size_of b s) (size_of b t)
-size_of b (difference s t) = sum_of_lem (size_of b s) (size_of b t)
+size_of b (sum s t) = sum_of (size_of b s) (size_of b t)
+size_of b (difference s t) = sum_of (size_of b s) (size_of b t)
 size_of b (product s t) = product_of (size_of b s) (size_of b t)
 size_of b (quotient s t) = none
 size_of b (minus s) = size_of b s
@@ -51,8 +51,8 @@ size_of b (root s) = none
 abbrev pub HeldBy : Float → Fraction → Size → Type 0
 HeldBy v w a = Held binary64 v w a.size a.error
 
-held_sum : {v v' : Float} {w w' : Fraction} (a b : Size) → HeldBy v w a → HeldBy v' w' b → T (sum_of_lem a b).ok
-    → HeldBy (add binary64 v v') (plus w w') (sum_of_lem a b)
+held_sum : {v v' : Float} {w w' : Fraction} (a b : Size) → HeldBy v w a → HeldBy v' w' b → T (sum_of a b).ok
+    → HeldBy (add binary64 v v') (plus w w') (sum_of a b)
 held_sum a b h k t =
     let o = ltb (sum_size binary64 a.size b.size) (overflow binary64) in
     held_add h k (ltb→lt (sum_size binary64 a.size b.size) (overflow binary64) (and_r (a.ok && b.ok) o t))
