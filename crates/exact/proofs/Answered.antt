@@ -25,7 +25,7 @@ use Rattle.boundary.proofs.sub_region3_pT.Reads as choice
 use Rattle.distance.specs.Exact.{ef, uv, Q}
 use Rattle.distance.specs.Letter.{All}
 use Rattle.distance.proofs.Contract.{taken}
-use Rattle.exact_lines.specs.Letter.{Line, in_p_lem, line3wx, saturationLine, exact_band, lines_of}
+use Rattle.exact_lines.specs.Letter.{Line, in_p, line3wx, saturationLine, exact_band, lines_of}
 use Rattle.exact.specs.Premises.{InBox}
 use Rattle.exact.proofs.BandLimit.{f64_limit}
 use Rattle.exact.proofs.Judged.{InRange}
@@ -78,9 +78,9 @@ module _ (p t : Float) (g : Placed p t) where
   near_answered : P ≤ 23 * Q → Answered (near_rule p t)
   unfolding near_rule
   near_answered m =
-      let u = accept p t g (in_p_lem uv) m in
+      let u = accept p t g (in_p uv) m in
       let w = accept p t g line3wx (wx_range p t g m) in
-      let e = accept p t g (in_p_lem ef) (wide p t g 23 40 m (lit≤ tt)) in
+      let e = accept p t g (in_p ef) (wide p t g 23 40 m (lit≤ tt)) in
       after _ u.number u.is
       (after _ w.number w.is (after _ e.number e.is (either (lt (decimal 22_11 2) p) (answer _) (by_saturation _ _ (λ y. answer _)))))
 

@@ -25,14 +25,14 @@ use Rattle.boundary.specs.Choice.{near_rule}
 use Rattle.distance.specs.Exact.{Polynomial, ef, uv, temperature, Q}
 use Rattle.distance.specs.Letter.{All}
 use Rattle.exact_lines.specs.Saturation.{saturation}
-use Rattle.exact_lines.specs.Letter.{Line, in_p_lem, line3wx, saturationLine, line_at, above, near_lines, near_letter}
+use Rattle.exact_lines.specs.Letter.{Line, in_p, line3wx, saturationLine, line_at, above, near_lines, near_letter}
 use Rattle.exact.specs.Premises.{Off}
 use Rattle.rounding.proofs.Compare.{Sided}
 use Rattle.exact.proofs.Judged.{InRange, Judged, Followed, reach, scale_positive, followed, judge_by, judge, judge_all}
 use Rattle.exact.proofs.Placed.{Placed}
 use Rattle.exact.proofs.Pressures.{lt_is, yes_above, not_above, exact_22_11, exact_22_064, exact_21_9316, exact_21_9010, Ends, at_22_11, at_22_064}
 use Rattle.exact.proofs.Pressures.{at_21_9316, at_21_9010}
-use Rattle.exact.proofs.BandLetters.{Accepted, near_lines_lem, near_letter_lem, near_22_11, near_22_064, near_saturated}
+use Rattle.exact.proofs.BandLetters.{Accepted, near_lines_by, near_letter_by, near_22_11, near_22_064, near_saturated}
 use Rattle.exact.proofs.Meetings.{p1, p2, p3, sat1, sat2, sat3, uv1, ef1, wx3, S1, S2, S3, U1, E1, W3, near1, near2, near3, order1}
 
 module _ (p t : Float) (g : Placed p t) where
@@ -55,7 +55,7 @@ module _ (p t : Float) (g : Placed p t) where
   pub sat_range : P * 1000 ≤ 22065 * Q → InRange P saturationLine
   sat_range h = (g.upto_100, g.from_16, h)
 
-  near_ranges : (b c d : Bool) → P ≤ 23 * Q → (T (not b) → P * 1000 ≤ 22065 * Q) → All (InRange P) (near_lines_lem b c d)
+  near_ranges : (b c d : Bool) → P ≤ 23 * Q → (T (not b) → P * 1000 ≤ 22065 * Q) → All (InRange P) (near_lines_by b c d)
   near_ranges true c d m h = (m, (wide 23 40 m (lit≤ tt), (wx_range m, tt)))
   near_ranges false true true m h = (sat_range (h tt), (m, (wx_range m, tt)))
   near_ranges false true false m h = (sat_range (h tt), (m, tt))
@@ -81,22 +81,22 @@ module _ (p t : Float) (g : Placed p t) where
 
     -- by what p is above; 22.11 < p ≤ 22.064 is no pressure
     by_ends : (a b c d : Bool) → lt (decimal 22_11 2) p ≡ a → lt (decimal 22_064 3) p ≡ b → lt (decimal 21_93161551 8) p ≡ c → lt (decimal 21_90096265 8) p ≡ d
-        → (T a → 2211 * Q < P * 100) → (T (not b) → P * 1000 ≤ 22064 * Q) → P ≤ 23 * Q → All O (near_lines_lem b c d) → near_rule p t ≡ value
-        (near_letter_lem p t below a b c d)
+        → (T a → 2211 * Q < P * 100) → (T (not b) → P * 1000 ≤ 22064 * Q) → P ≤ 23 * Q → All O (near_lines_by b c d) → near_rule p t ≡ value
+        (near_letter_by p t below a b c d)
     by_ends a b c d ha hb hc hd f h m s =
         go a b ha hb f h
-        (judge_all p P g.p_f64 g.whole_p t n g.whole_t below (near_lines_lem b c d) (near_ranges b c d m (λ k. le_trans (h k) (lit≤ tt))) s)
+        (judge_all p P g.p_f64 g.whole_p t n g.whole_t below (near_lines_by b c d) (near_ranges b c d m (λ k. le_trans (h k) (lit≤ tt))) s)
       where
         no_p : (Q : ℕ) → 2211 * Q < P * 100 → P * 1000 ≤ 22064 * Q → ⊥
         no_p Q h l = omega arith
 
         go : (a b : Bool) → lt (decimal 22_11 2) p ≡ a → lt (decimal 22_064 3) p ≡ b → (T a → 2211 * Q < P * 100) → (T (not b) → P * 1000 ≤ 22064 * Q)
-            → All (λ l. Judged p t l (below l)) (near_lines_lem b c d) → near_rule p t ≡ value (near_letter_lem p t below a b c d)
+            → All (λ l. Judged p t l (below l)) (near_lines_by b c d) → near_rule p t ≡ value (near_letter_by p t below a b c d)
         go true true ha hb f h k = near_22_11 p t below c d ha k
         go true false ha hb f h k = absurd (no_p Q (f tt) (h tt))
         go false true ha hb f h k = near_22_064 p t below c d ha hb k
         go false false ha hb f h k =
-            near_saturated p t below c d ha hb hc hd (accept (in_p_lem uv) m) (accept line3wx (wx_range m)) (accept (in_p_lem ef) (wide 23 40 m (lit≤ tt))) k
+            near_saturated p t below c d ha hb hc hd (accept (in_p uv) m) (accept line3wx (wx_range m)) (accept (in_p ef) (wide 23 40 m (lit≤ tt))) k
 
     away : Ends P → P ≤ 23 * Q → All O (near_lines P) → near_rule p t ≡ value (near_letter below P)
     away ends m s =
@@ -120,7 +120,7 @@ module _ (p t : Float) (g : Placed p t) where
     one_value x y h k = ap value_in (sym h ∙ k)
 
     -- a float near a polynomial is on T's side of it
-    beside : (b : Polynomial) (c : Float) (A : ℕ) → P ≡ A → Near c (temperature b A) 1 (10 ^ 8) → O (in_p_lem b) → Sided t c (below (in_p_lem b))
+    beside : (b : Polynomial) (c : Float) (A : ℕ) → P ≡ A → Near c (temperature b A) 1 (10 ^ 8) → O (in_p b) → Sided t c (below (in_p b))
     unfolding line_at
     beside b c A e h s =
         let f : Followed (value c) (λ k. temperature b P) 1 (10 ^ 8) = record {
@@ -129,16 +129,16 @@ module _ (p t : Float) (g : Placed p t) where
           close = λ k deep. subst (λ (z : ℕ). Near c (temperature b z) 1 (10 ^ 8)) (sym e) h;
           positive = λ k deep. scale_positive b P;
         } in
-        judge_by p P g.p_f64 g.whole_p t n g.whole_t (lit< tt) f (below (in_p_lem b)) s
+        judge_by p P g.p_f64 g.whole_p t n g.whole_t (lit< tt) f (below (in_p b)) s
 
     -- ---- 22.064: 3ef is the saturation temperature
     abbrev A1 : ℕ
     A1 = scaled_by 48 p1
 
     abbrev letter_1 : Outcome Letter
-    letter_1 = value (cond (below (in_p_lem uv)) letters.U (cond (below (in_p_lem ef)) letters.Y (cond (below line3wx) letters.Z letters.X)))
+    letter_1 = value (cond (below (in_p uv)) letters.U (cond (below (in_p ef)) letters.Y (cond (below line3wx) letters.Z letters.X)))
 
-    lines_1 : P ≡ A1 → All O (near_lines P) → All O (in_p_lem uv ∷ in_p_lem ef ∷ line3wx ∷ [])
+    lines_1 : P ≡ A1 → All O (near_lines P) → All O (in_p uv ∷ in_p ef ∷ line3wx ∷ [])
     unfolding decimal scaled round scaled_by
     lines_1 e s = rw (above_at 22_064 1000 A1 e true refl) at s
 
@@ -147,8 +147,8 @@ module _ (p t : Float) (g : Placed p t) where
     is_letter_1 e = rw (above_at 22_11 100 A1 e false refl, above_at 22_064 1000 A1 e true refl)
 
     -- T below 3uv is below 3ef
-    ordered : p ≡ p1 → (x y : Float) → boundary_of Uv p ≡ value x → boundary_of Ef p ≡ value y → le t x ≡ below (in_p_lem uv) → le t y ≡ below (in_p_lem ef)
-        → below (in_p_lem uv) ≡ true → below (in_p_lem ef) ≡ false → ⊥
+    ordered : p ≡ p1 → (x y : Float) → boundary_of Uv p ≡ value x → boundary_of Ef p ≡ value y → le t x ≡ below (in_p uv) → le t y ≡ below (in_p ef)
+        → below (in_p uv) ≡ true → below (in_p ef) ≡ false → ⊥
     unfolding of_bits
     ordered q x y h k a b u f =
         let x_is : x ≡ U1 = one_value x U1 h (ap (boundary_of Uv) q ∙ uv1) in
@@ -163,12 +163,12 @@ module _ (p t : Float) (g : Placed p t) where
     mixed false true w f = refl
     mixed false false w f = refl
 
-    at_1 : P ≡ A1 → P ≤ 23 * Q → All O (in_p_lem uv ∷ in_p_lem ef ∷ line3wx ∷ []) → near_rule p t ≡ letter_1
+    at_1 : P ≡ A1 → P ≤ 23 * Q → All O (in_p uv ∷ in_p ef ∷ line3wx ∷ []) → near_rule p t ≡ letter_1
     unfolding decimal scaled round scaled_by near_rule fits
     at_1 e m s =
         let q : p ≡ p1 = point_is p1 A1 tt exact_22_064 e in
-        let u = j (in_p_lem uv) m s.0 in
-        let f = j (in_p_lem ef) (wide 23 40 m (lit≤ tt)) s.1.0 in
+        let u = j (in_p uv) m s.0 in
+        let f = j (in_p ef) (wide 23 40 m (lit≤ tt)) s.1.0 in
         let w = j line3wx (wx_range m) s.1.1.0 in
         let sat = beside ef S1 A1 e near1 s.1.0 in
         rw (u.is, w.is, f.is, ap T_saturation q ∙ sat1)
@@ -182,16 +182,16 @@ module _ (p t : Float) (g : Placed p t) where
           w.sided.under,
         )
         (ap value
-        (mixed (below (in_p_lem uv)) (below (in_p_lem ef)) (below line3wx) (ordered q u.number f.number u.is f.is u.sided.upto f.sided.upto))))
+        (mixed (below (in_p uv)) (below (in_p ef)) (below line3wx) (ordered q u.number f.number u.is f.is u.sided.upto f.sided.upto))))
 
     -- ---- 21.93161551: 3uv is the saturation temperature
     abbrev A2 : ℕ
     A2 = scaled_by 48 p2
 
     abbrev letter_2 : Outcome Letter
-    letter_2 = value (cond (below saturationLine) (cond (below (in_p_lem uv)) letters.U letters.Y) (cond (below line3wx) letters.Z letters.X))
+    letter_2 = value (cond (below saturationLine) (cond (below (in_p uv)) letters.U letters.Y) (cond (below line3wx) letters.Z letters.X))
 
-    lines_2 : P ≡ A2 → All O (near_lines P) → All O (saturationLine ∷ in_p_lem uv ∷ line3wx ∷ [])
+    lines_2 : P ≡ A2 → All O (near_lines P) → All O (saturationLine ∷ in_p uv ∷ line3wx ∷ [])
     unfolding decimal scaled round scaled_by
     lines_2 e s =
         rw (above_at 22_064 1000 A2 e false refl, above_at 21_93161551 (10 ^ 8) A2 e true refl, above_at 21_90096265 (10 ^ 8) A2 e true refl) at s
@@ -215,16 +215,16 @@ module _ (p t : Float) (g : Placed p t) where
     upto_22_065 : (A : ℕ) → A * 1000 ≤ 22065 * Q → P ≡ A → P * 1000 ≤ 22065 * Q
     upto_22_065 A h e = subst (λ (z : ℕ). z * 1000 ≤ 22065 * Q) (sym e) h
 
-    at_2 : P ≡ A2 → P ≤ 23 * Q → All O (saturationLine ∷ in_p_lem uv ∷ line3wx ∷ []) → near_rule p t ≡ letter_2
+    at_2 : P ≡ A2 → P ≤ 23 * Q → All O (saturationLine ∷ in_p uv ∷ line3wx ∷ []) → near_rule p t ≡ letter_2
     unfolding decimal scaled round scaled_by near_rule fits
     at_2 e m s =
         let q : p ≡ p2 = point_is p2 A2 tt exact_21_9316 e in
         let a = j saturationLine (sat_range (upto_22_065 A2 (lit≤ tt) e)) s.0 in
-        let u = accept (in_p_lem uv) m in
-        let f = accept (in_p_lem ef) (wide 23 40 m (lit≤ tt)) in
+        let u = accept (in_p uv) m in
+        let f = accept (in_p ef) (wide 23 40 m (lit≤ tt)) in
         let w = j line3wx (wx_range m) s.1.1.0 in
         let by-uv = beside uv S2 A2 e near2 s.1.0 in
-        let one : below saturationLine ≡ below (in_p_lem uv) =
+        let one : below saturationLine ≡ below (in_p uv) =
         sym a.sided.upto ∙ ap (le t) (one_value a.number S2 a.is (ap T_saturation q ∙ sat2)) ∙ by-uv.upto in
         rw (u.is, w.is, f.is, a.is)
         (rw (
@@ -235,7 +235,7 @@ module _ (p t : Float) (g : Placed p t) where
           a.sided.upto,
           w.sided.under,
         )
-        (ap value (same_2 (below saturationLine) (below (in_p_lem uv)) (below line3wx) one)))
+        (ap value (same_2 (below saturationLine) (below (in_p uv)) (below line3wx) one)))
 
     -- ---- 21.90096265: 3wx is the saturation temperature
     abbrev A3 : ℕ
@@ -270,8 +270,8 @@ module _ (p t : Float) (g : Placed p t) where
         let q : p ≡ p3 = point_is p3 A3 tt exact_21_9010 e in
         let r = sat_range (upto_22_065 A3 (lit≤ tt) e) in
         let a = j saturationLine r s.0 in
-        let u = accept (in_p_lem uv) m in
-        let f = accept (in_p_lem ef) (wide 23 40 m (lit≤ tt)) in
+        let u = accept (in_p uv) m in
+        let f = accept (in_p ef) (wide 23 40 m (lit≤ tt)) in
         let w = j line3wx (wx_range m) s.1.0 in
         let v = followed p P g.p_f64 g.whole_p saturationLine r in
         let v-is : v.number ≡ S3 = one_value v.number S3 v.is (ap T_saturation q ∙ sat3) in
