@@ -1,9 +1,9 @@
 -- The points of docs/SCOPE.md that these crates and the rules answer, worked out by antt from the definitions: one table, one statement. The starred
 -- ones come first. Assumes nothing.
-use mathlib.Core.Path.{◌≡◌, refl}
+use mathlib.Core.Path.{◌≡◌, refl, sym, ap, ◌∙◌}
 use mathlib.Core.List.{List, [], ◌∷◌, map}
 use lib.IntN.{ℤ, pos}
-use lib.Ieee.{Float, nan, round, neg, add, sub, sum, mul, div, of_int, le, lt, eq}
+use lib.Ieee.{Float, nan, binary64, of_bits, round, neg, add, sub, sum, mul, div, of_int, le, lt, eq}
 use Rattle.common.specs.Outcome.{Outcome, value, refused}
 use Rattle.common.specs.Decimal.{scaled, decimal, whole, negative, plus, minus}
 use Rattle.common.specs.Sum.{total}
@@ -19,6 +19,7 @@ use Rattle.r4.specs.Saturation.{p_saturation, T_saturation}
 use Rattle.boundaries.specs.Boundary.{boundary_rule, walk_rule, row_at, table, straight3ef}
 use Rattle.boundary.specs.Choice.{letter_rule, letter_at, limit, ab_rule, cdef_rule, chijk_rule, ct_rule}
 use Rattle.boundaries.specs.declared.Boundary.TheVariants.{Ef}
+use Rattle.distance.specs.Letter.{All}
 
 -- a call, with the numbers as printed
 pub data Call : Type 0 where
@@ -85,8 +86,29 @@ points =
     ∷ (root (neg (whole 1)) gives number· (refused 5))
     ∷ []
 
+-- as f64s, both sides the same one: two unlike roundings are not compared as such
+ef_holds : got (ef (decimal 22_064 3) gives be (decimal 647_096 3)) ≡ be (decimal 647_096 3)
+unfolding got boundary_rule straight3ef decimal whole scaled round add sub sum mul le of_bits
+ef_holds = is_it ∙ sym printed
+  where
+    is_it : got (ef (decimal 22_064 3) gives be (decimal 647_096 3)) ≡ be (of_bits binary64 0x408438c49ba5e354)
+    is_it = refl
+
+    printed : be (decimal 647_096 3) ≡ be (of_bits binary64 0x408438c49ba5e354)
+    printed = refl
+
+abbrev Holds : Point → Type 0
+Holds x = got x ≡ wanted x
+
+held : (xs : List Point) → All Holds xs → map got xs ≡ map wanted xs
+held [] h = refl
+held (x ∷ xs) h = ap (λ (r : Found). r ∷ map got xs) h.0 ∙ ap (λ (rs : List Found). wanted x ∷ rs) (held xs h.1)
+
 pub points_hold : map got points ≡ map wanted points
 unfolding got wanted points letter_rule region3_box beside_border B23_p2T letter_at limit p_saturation T_saturation ab_rule cdef_rule chijk_rule ct_rule boundary_rule
     walk_rule row_at table straight3ef total power_rule root_rule nearest_root whole_root logarithm_rule ln2 exponential_rule in_units decimal whole plus minus scaled
     round neg add sub sum mul div of_int le lt eq
-points_hold = refl
+points_hold = held points
+    (refl, (refl, (refl, (refl, (refl, (refl, (refl, (refl, (ef_holds,
+    (refl, (refl, (refl, (refl, (refl, (refl, (refl, (refl, (refl, (refl, (refl, (refl, (refl, (refl, (refl, (refl, (refl,
+    tt))))))))))))))))))))))))))
