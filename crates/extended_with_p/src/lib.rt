@@ -1,5 +1,7 @@
 // The six further properties that work p, by the formulas of the Rust's region3_Td_ext.rs. They answer, since that p is range-tested at its place. The
 // checks of the box are the callers'.
+#![tactic(auto)]
+
 ghost use Rattle.std.specs.Prelude.{◌≡◌};
 ghost use Rattle.common.specs.Outcome.{check, then};
 ghost use Rattle.common.specs.Answer.{paper};
