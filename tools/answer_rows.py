@@ -1,5 +1,5 @@
 #!/usr/bin/env python3
-"""Writes what the programs `answers` and `exported_calls` are given and must write: crates/NAME/stdin and crates/NAME/stdout. `rt check` holds the
+"""Writes what the programs `answers` and `exported_calls` are given and must write: crates/NAME/stdin and crates/NAME/stdout. `rt ci` holds the
 one to the other, byte for byte. Nothing of the port is read.
 
 `answers` has every stored row: those of the four written rules with the answers of rules_rows.py; those of tools/oracle (its edges and random

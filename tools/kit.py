@@ -109,8 +109,8 @@ def snippet(name, text_files, deps, room):
     return ran.stdout, ran.returncode
 
 
-def build_archive(crate, archive, module=None):
-    """Proves and builds a static library over the libraries below it, which stand, and with `module` keeps a copy of the LLVM module that rattle hands to
+def build(crate, to, module=None):
+    """Proves and builds a program's object or a static library over the libraries below it, which stand, and with `module` keeps a copy of the LLVM module that rattle hands to
     its compiler. What was said, and the status."""
     with tempfile.TemporaryDirectory(prefix="archive-") as room:
         toolchain = f"{rt.KIT}/toolchain"
@@ -127,7 +127,7 @@ def build_archive(crate, archive, module=None):
             (own / "bin/clang").write_text(f"#!/bin/sh\nfor word in \"$@\"; do case $word in *.bc | *.ll) cp \"$word\" '{module}' ;; esac; done\nexec '{toolchain}/bin/clang' \"$@\"\n")
             (own / "bin/clang").chmod(0o755)
             toolchain = str(own)
-        words = [rt.rtlib.RATTLE, "build", *crate.words(["--jobs", "2"], keeps=False), "--toolchain", toolchain, "--backend", "llvm", "-o", str(archive)]
+        words = [rt.rtlib.RATTLE, "build", *crate.words(["--jobs", "2"], keeps=False), "--toolchain", toolchain, "--backend", "llvm", "-o", str(to)]
         ran = subprocess.run([*rt.rtlib.guarded(), *words], cwd=crate.folder, stdin=subprocess.DEVNULL, stdout=subprocess.PIPE, stderr=subprocess.STDOUT, text=True, errors="replace")
     return ran.stdout, ran.returncode
 
