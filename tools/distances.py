@@ -39,7 +39,7 @@ def proved():
     own = text("exact", "Distance.antt")
     found |= {b: int(n) for b, n in re.findall(r"^distance(3\w\w) = (\d+)$", own, re.M)}
     names = {"saturation": "T_saturation", "border": "B23"}
-    found |= {names[b]: int(n) for b, n in re.findall(r"^(saturation|border)Distance = (\d+)$", own, re.M)}
+    found |= {names[b]: int(n) for b, n in re.findall(r"^(saturation|border)_distance = (\d+)$", own, re.M)}
     assert sorted(found) == sorted(BANDS)
     return found
 

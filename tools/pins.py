@@ -111,9 +111,9 @@ def wanted():
     for pair in ("ph", "ps"):
         for what in ("T", "v"):
             for side in ("a", "b"):
-                printed.append((f"table-{what.lower()}3{side}-{pair}", pin_rows(rows_of(function(phps, f"{pair}2{what}_3{side}_reg3")))))
+                printed.append((f"table_{what.lower()}3{side}_{pair}", pin_rows(rows_of(function(phps, f"{pair}2{what}_3{side}_reg3")))))
     for side in ("a", "b"):
-        printed.append((f"table-p3{side}-hs", pin_rows(rows_of(function(hs, f"hs2p3{side}_reg3")))))
+        printed.append((f"table_p3{side}_hs", pin_rows(rows_of(function(hs, f"hs2p3{side}_reg3")))))
     hfe = text("r3/region3_hfe.rs")
     first = float(re.search(r"const n1: f64 = ([-+0-9.eE]+);", hfe).group(1))
     out["printed"] = printed + [("table30", pin_rows(rows_of(hfe))), ("n1", pin_numbers([first]))]
@@ -125,52 +125,59 @@ def wanted():
 
 HEAD = """-- Each printed table is the Rust's, digit by digit and row by row: its pin (common/proofs/Pin.antt), computed of the definition, is the
 -- number that tools/pins.py works from the text of the Rust. Written by that script.
-use Prim.Native.Nat.{ℕ}
-use mathlib.Core.Path.{_≡_, refl}
-use mathlib.Core.List.{List, [], _∷_}
-use lib.Ieee.{Float}
-use Rattle·common.specs.Decimal.{plus, minus, scaled}
 """
 
-# what a crate's pins need beside that
+# what a crate's pins need
 MORE = {
-    "printed": """use Rattle·common.proofs.Pin.{pinFrom, pinNumbers}
-use Rattle·algo.proofs.Pin.{pinRows}
-use Rattle·printed·specs.specs.Volumes.{VOLUMES}
-use Rattle·printed·specs.specs.Backward.{BACKWARD}
-use Rattle·printed·specs.specs.Table30.{n1, table30}
+    "printed": """use mathlib.Core.Path.{◌≡◌, refl}
+use mathlib.Core.List.{[], ◌∷◌}
+use Rattle.common.specs.Decimal.{plus, minus, scaled}
+use Rattle.common.proofs.Pin.{pin_from, pin_numbers}
+use Rattle.algo.proofs.Pin.{pin_rows}
+use Rattle.printed.specs.Volumes.{VOLUMES}
+use Rattle.printed.specs.Backward.{BACKWARD}
+use Rattle.printed.specs.Table30.{n1, table30}
 """,
-    "printed_lines": """use Rattle·common.proofs.Pin.{mix, shifted, mixFloat, pinFrom}
-use Rattle·printed_lines·specs.specs.Boundaries.{Term, term, Argument, inP, inLn, Row, row, table}
+    "printed_lines": """use Prim.Native.Nat.{ℕ}
+use mathlib.Core.Path.{◌≡◌, refl}
+use mathlib.Core.List.{List, [], ◌∷◌}
+use lib.Ieee.{Float}
+use Rattle.common.specs.Decimal.{plus, minus, scaled}
+use Rattle.common.proofs.Pin.{mix, shifted, mix_float, pin_from}
+use Rattle.printed_lines.specs.Boundaries.{Term, term, Argument, in_p, inLn, Row, row, table}
 
-abbrev mixTerm : ℕ → Term → ℕ
-mixTerm h (term i n) = mixFloat (mix h (shifted i)) n
+abbrev mix_term : ℕ → Term → ℕ
+mix_term h (term i n) = mix_float (mix h (shifted i)) n
 
 abbrev numbered : Argument → ℕ
-numbered inP = 1
+numbered in_p = 1
 numbered inLn = 2
 
 -- what the row's sum is in, and its terms
-abbrev mixRow : ℕ → Row → ℕ
-mixRow h (row a ts) = pinFrom mixTerm (mix h (numbered a)) ts
+abbrev mix_row : ℕ → Row → ℕ
+mix_row h (row a ts) = pin_from mix_term (mix h (numbered a)) ts
 
-abbrev pinRows : List Row → ℕ
-pinRows = pinFrom mixRow 0
+abbrev pin_rows : List Row → ℕ
+pin_rows = pin_from mix_row 0
 """,
-    "r4": """use Rattle·common.specs.Outcome.{valueIn}
-use Rattle·common.proofs.Pin.{pinFrom, pinNumbers}
-use Rattle·r4·specs.specs.Saturation.{n1, n2, n3, n4, n5, n6, n7, n8, n9, n10}
+    "r4": """use mathlib.Core.Path.{◌≡◌, refl}
+use mathlib.Core.List.{List, [], ◌∷◌}
+use lib.Ieee.{Float}
+use Rattle.common.specs.Decimal.{plus, minus, scaled}
+use Rattle.common.specs.Outcome.{value_in}
+use Rattle.common.proofs.Pin.{pin_from, pin_numbers}
+use Rattle.r4.specs.Saturation.{n1, n2, n3, n4, n5, n6, n7, n8, n9, n10}
 
 -- table 34
 abbrev table34 : List Float
 table34 =
-    valueIn n1 ∷ valueIn n2 ∷ valueIn n3 ∷ valueIn n4 ∷ valueIn n5 ∷ valueIn n6 ∷ valueIn n7 ∷ valueIn n8 ∷ valueIn n9 ∷ valueIn n10 ∷ []
+    value_in n1 ∷ value_in n2 ∷ value_in n3 ∷ value_in n4 ∷ value_in n5 ∷ value_in n6 ∷ value_in n7 ∷ value_in n8 ∷ value_in n9 ∷ value_in n10 ∷ []
 """,
 }
 
 
 def statement(name, pin):
-    said = {"n1": "pinNumbers (n1 ∷ [])", "table34": "pinNumbers table34"}.get(name, f"pinRows {name}")
+    said = {"n1": "pin_numbers (n1 ∷ [])", "table34": "pin_numbers table34"}.get(name, f"pin_rows {name}")
     return f"{said} ≡ {pin}"
 
 
@@ -180,7 +187,7 @@ def theorem(name, pins):
     head = f" {said[0]}" if len(said) == 1 else "\n    " + "\n    × ".join(f"({one})" for one in said)
     unfold = "".join(" " + n for n, _ in pins if n not in ("n1", "table34"))
     proof = "refl" if len(said) == 1 else f"({', '.join('refl' for _ in said)})"
-    return f"\npub {name}-pin :{head}\nunfolding pinFrom plus minus scaled{unfold}\n{name}-pin = {proof}\n"
+    return f"\npub {name}_pin :{head}\nunfolding pin_from plus minus scaled{unfold}\n{name}_pin = {proof}\n"
 
 
 def file_of(crate, pins):
