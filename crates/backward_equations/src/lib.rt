@@ -1,5 +1,7 @@
 // The ten backward equations of region 3, each with its table and its numbers: S03rev for (p,h) and (p,s), S04rev for (h,s). They are asked for by the side
 // of region 3 on which they hold (`by_side`).
+#![tactic(auto)]
+
 mod by_side;
 mod columns;
 mod pattern;
@@ -7,14 +9,14 @@ mod pattern;
 pub use by_side::{raw_hs2p, raw_ph2T, raw_ph2v, raw_ps2T, raw_ps2v};
 
 // A side of region 3: 3a up to the dividing line, which belongs to it, and 3b above.
-#[derive(Drop)]
+#[derive(Clone, Copy)]
 pub enum Side {
     A,
     B,
 }
 
 // An equation: what it gives, on which side, and from what.
-#[derive(Drop)]
+#[derive(Clone, Copy)]
 enum Equation {
     T3aPh,
     T3bPh,
@@ -29,7 +31,7 @@ enum Equation {
 }
 
 // The form of an equation at x and y, with its numbers z, x*, a, y*, b.
-#[derive(Drop)]
+#[derive(Clone, Copy)]
 enum Form {
     // z times the sum at x / x* + a and y / y* - b
     Plus(f64, f64, f64, f64, f64),

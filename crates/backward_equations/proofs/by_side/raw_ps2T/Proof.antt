@@ -1,9 +1,0 @@
--- `backward_equations::raw_ps2T`: the equations of the two sides.
-use borrow.Author.Rules.{rules}
-use Rattle.backward_equations.proofs.by_side.raw_ps2T as own
-
-returns : own.Tie.Need-returns
-returns c = c.raw-on.ensures
-
-pub raw_ps2T_spec : {M : Type 1} → own.Statement.statement M
-raw_ps2T_spec = own.Tie.close (own.Tie.spec (λ c κs. search rules) returns)
