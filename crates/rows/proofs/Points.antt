@@ -1,6 +1,6 @@
 -- Points of the definitions far beyond the stored rows, worked out by antt: numbers of rows that 12, 16 and 32 bits do not hold, and the last ones of 64 bits.
 -- The rows are of zeros: p = 0 is refused with 2. Assumes nothing.
-use mathlib.Core.Path.{◌≡◌, refl, ap, ◌∙◌}
+use mathlib.Core.Path.{◌≡◌, ap, ◌∙◌}
 use mathlib.Core.List.{List, [], ◌∷◌, ◌++◌}
 use Prim.Native.Nat.{ℕ, ◌+◌, ◌-◌, ◌^◌, ◌<◌}
 use Prim.Native.Char.{code}

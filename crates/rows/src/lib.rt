@@ -1,5 +1,7 @@
 // The work of `letters` on lent bytes: rows of 16 bytes in, lines of text out, in buffers of fixed size that the caller lends again and again.
 // What stands in each byte is in specs/Lines.antt.
+#![tactic(auto)]
+
 mod put;
 mod take;
 
