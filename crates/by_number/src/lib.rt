@@ -1,5 +1,7 @@
 // A property at a temperature and a density by its number, and cp and w together: the 25 numbers of common/property_id.rs that the Rust's
 // `Td_thermal_reg3` and `Td_ext_reg3` name.
+#![tactic(auto)]
+
 use common::Answer;
 
 mod property;
