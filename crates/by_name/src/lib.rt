@@ -1,4 +1,6 @@
 // The 25 properties at a T and a d, each by its name: the call by its number (crate by_number) under the promise of its own formula.
+#![tactic(auto)]
+
 ghost use Rattle.std.specs.Prelude.{◌≡◌};
 ghost use Rattle.common.specs.Answer.{paper};
 ghost use Rattle.properties.specs.Td.{Td2v, Td2h, Td2s, Td2u, Td2cv, Td2cp, Td2w, state_pressure};
