@@ -21,7 +21,7 @@ def load():
     loader = importlib.machinery.SourceFileLoader("rt_of_the_kit", os.path.realpath(found))
     module = importlib.util.module_from_spec(importlib.util.spec_from_loader("rt_of_the_kit", loader))
     loader.exec_module(module)
-    lacking = [name for name in ("checked", "in_lanes", "linked", "need", "own_sum", "share_work", "stamp_of", "rtlib") if not hasattr(module, name)]
+    lacking = [name for name in ("in_lanes", "linked", "need", "own_sum", "share_work", "stamp_of", "rtlib") if not hasattr(module, name)]
     if lacking:
         sys.exit(f"the rt of this kit is another than the tools were written for: it lacks {', '.join(lacking)}")
     return module
@@ -84,12 +84,29 @@ def begin(crate, room):
     return kept
 
 
-def check(crate, texts, kept, flags=("--jobs", "1")):
-    """What a check of the crate with these texts in place of its own says, and its status; once more where it was killed, most likely for memory."""
-    ran = rt.checked(crate, texts, [*flags], kept)
-    if ran.returncode == -9:
-        ran = rt.checked(crate, texts, [*flags], kept)
-    return ran.stdout, ran.returncode
+def check(crate, texts, kept, flags=("--jobs", "1"), limit=None):
+    """What a check of the crate with these texts in place of its own says, and its status: rt ci's of an edit. Once more where it was killed, most likely
+    for memory; where it takes longer than `limit` seconds it is stopped, and the status is None."""
+    words = [*rt.rtlib.guarded(), rt.rtlib.RATTLE, "check", *crate.words([*flags], keeps=False), "--incremental", kept]
+    with tempfile.TemporaryDirectory(prefix="check-") as room:
+        for part in rt.rtlib.PARTS:
+            if os.path.isdir(f"{crate.folder}/{part}"):
+                shutil.copytree(f"{crate.folder}/{part}", f"{room}/{part}")
+        for path, text in texts.items():
+            Path(room, path).write_text(text, encoding="utf8")
+        for _ in range(2):
+            process = subprocess.Popen(words, cwd=room, stdin=subprocess.DEVNULL, stdout=subprocess.PIPE, stderr=subprocess.STDOUT, text=True, errors="replace")
+            try:
+                said, _ = process.communicate(timeout=limit)
+            except subprocess.TimeoutExpired:
+                process.kill()
+                return process.communicate()[0], None
+            except BaseException:
+                process.kill()
+                raise
+            if process.returncode != -9:
+                break
+    return said, process.returncode
 
 
 def snippet(name, text_files, deps, room):

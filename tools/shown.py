@@ -1,6 +1,7 @@
 """One must-fail edit, what it changes, and what the log of its check shows of each function or file that it names: for tools/bundles and tools/edits."""
 import re
 from dataclasses import dataclass, field
+from pathlib import Path
 
 FN = re.compile(r' *(pub(\([a-z]+\))? )?(extern "C" )?fn ')
 CONST = re.compile(r" *(pub(\([a-z]+\))? )?const (?!fn )")
@@ -258,3 +259,30 @@ def show(edit, name, log, texts):
     if unfit:
         return "", f"its proof no longer fits, and that is all: keep the code's shape. {unfit[0][:300]}", []
     return "", f"it is {log.states[name]}" if "::" in name else "no error stands there", []
+
+
+def tried(crate, edit, texts, kept, check, log_to):
+    """What is seen of each name of the edit: {name: (how, why not, notes)}. Names that wait are tried again with their own changes alone. What the prover
+    says at each turn is left in log_to."""
+    found, wait = {}, list(edit.names)
+    some = None
+    for turn in range(12):
+        changed = applied(edit, texts, some)
+        if changed is None:
+            found |= {name: ("", f"{WAITS}; and its own changes cannot be made alone", []) for name in wait}
+            break
+        said, status = check(crate, changed, kept)
+        Path(f"{log_to}.{turn + 1}.log").write_text(said, encoding="utf8")
+        log = log_of(said, {**texts, **changed}, crate.name)
+        if status == 0 or not log.reached:
+            last = said.rstrip().split("\n")[-1][:200]
+            why = "NOT REFUSED: the crate is still proved with its change" if status == 0 else f"the prover refused nothing, and ended with status {status}: {last}"
+            found |= {name: ("", why, []) for name in wait}
+            break
+        now = {name: show(edit, name, log, texts) for name in wait}
+        found |= now
+        left = [name for name, (how, why, _) in now.items() if not how and why == WAITS]
+        if not left or len(left) == len(wait) and some is not None or not edit.parts():
+            break
+        wait, some = left, {*left}
+    return found

@@ -1,8 +1,9 @@
-"""A copy of one crate, changed and checked over an incremental folder, in seconds. For tools/edits and tools/mutants.
+"""A copy of one crate, changed and checked over kept work, in seconds; and a copy of the repository, for what stands above it. For tools/edits and
+tools/mutants.
 
-A trial is a small repository below target/: the crates of this one by links, the changed ones as copies, the proved
-libraries by links. What the check of the unchanged crate left in its incremental folder is kept, and each change starts
-from that. Nothing here is a verdict: rt ci is.
+A check here is that of rt ci for a must-fail edit (tools/kit.py), over the libraries as rt built them. What the check of the unchanged crate left is kept,
+and each change starts from that. A copy of the repository lies among the temporary files, since rt ci refuses a second repository within its own; rt check
+begins there with what this checkout has kept. Nothing here is a verdict: rt ci is.
 """
 import hashlib
 import os
@@ -11,12 +12,26 @@ import re
 import shutil
 import signal
 import subprocess
+import sys
+import tempfile
 import time
 
 ROOT = pathlib.Path(__file__).resolve().parents[2]
-TARGET = ROOT / "target"
-TRIALS = TARGET / "trial"
+sys.path.insert(0, str(ROOT / "tools"))
+sys.dont_write_bytecode = True
+import kit  # noqa: E402
+import shown  # noqa: E402
+
+TARGET = ROOT / "out"
 PARTS = ("src", "specs", "proofs")
+MADE = []
+
+
+def trials():
+    """The folder of this run's copies."""
+    if not MADE:
+        MADE.append(tempfile.TemporaryDirectory(prefix="trials-"))
+    return pathlib.Path(MADE[0].name)
 
 
 def crates():
@@ -26,7 +41,7 @@ def crates():
         line = line.split("#")[0]
         if ":" in line:
             name, deps = line.split(":", 1)
-            listed[name.strip()] = deps.split()
+            listed[name.split()[0]] = deps.split()
     return listed
 
 
@@ -109,7 +124,7 @@ def read_edit(path):
 def run(words, cwd, limit):
     """What a command said, its status (None: it was stopped at the limit) and its seconds."""
     began = time.time()
-    process = subprocess.Popen(words, cwd=cwd, stdout=subprocess.PIPE, stderr=subprocess.STDOUT, start_new_session=True)
+    process = subprocess.Popen(words, cwd=cwd, stdin=subprocess.DEVNULL, stdout=subprocess.PIPE, stderr=subprocess.STDOUT, start_new_session=True)
     try:
         said, _ = process.communicate(timeout=limit)
         status = process.returncode
@@ -123,24 +138,17 @@ def run(words, cwd, limit):
     return said.decode(errors="replace"), status, time.time() - began
 
 
-WAITS = re.compile(r"was not admitted.*cannot be (checked|used|read)|cannot be unfolded because it was not admitted")
-UNFIT = re.compile(r"that can be named from here|has no field `|is not in scope|^`[^`]*-spec`: expected type `[^ `]*Lts\.Closed "
-                   r"|expected type `[^ `]*Need-[^`]*`, but this has type `[^ `]*Need-")
-
-
 def errors(said, crate):
     """The errors of a log, (place below the crate, text, kind): 'own', 'waits' on another, or the proof is 'unfit'."""
-    found = []
-    mark = f"/crates/{crate}/"
-    for line in said.splitlines():
-        place, sep, text = line.partition(": error")
-        if sep and mark in place:
-            text = text.partition(": ")[2]
-            kind = "waits" if WAITS.search(text) else "unfit" if UNFIT.search(text) else "own"
-            found.append((place.split(mark, 1)[1], text, kind))
-        found_fn = re.match(r"fn ([^ ]+): no proof: .*(`search` does not close .*)", line)
-        if found_fn:
-            found.append((found_fn[1], found_fn[2], "own"))
+    kinds = {"waits on another": "waits", "the proof no longer fits": "unfit", "": "own"}
+    log = shown.log_of(said, {}, crate)
+    found = [(f"{file}:{place}", text, kinds[shown.passed_over(text)]) for file, place, text in log.errors]
+    for name, state in log.states.items():
+        goals = re.search(r"`search` did not prove .*", state)
+        if goals:
+            found.append((name, goals[0].partition("; it calls")[0], "own"))
+        elif "it calls" in state:
+            found.append((name, state, "waits"))
     return found
 
 
@@ -156,63 +164,54 @@ def verdict(said, status):
 
 
 class Trial:
-    """One crate in a small repository of its own, checked over an incremental folder."""
+    """One crate, checked over kept work."""
+
+    every = {}
 
     def __init__(self, crate, slot=0):
-        self.crate = crate
-        self.room = TRIALS / f"{crate}.{slot}"
-        self.kept = TRIALS / f"{crate}.kept"
-        self.texts = files(crate)
-        if not self.texts:
+        if not Trial.every:
+            Trial.every.update(kit.crates())
+        if crate not in Trial.every:
             raise Bad(f"there is no crate {crate}")
+        self.crate, self.of = crate, Trial.every[crate]
+        self.room = trials() / f"{crate}.{slot}"
+        self.kept = trials() / f"{crate}.kept"
+        self.texts = files(crate)
         shutil.rmtree(self.room, ignore_errors=True)
-        lay(self.room, [crate])
-
-    def put(self, texts):
-        base = self.room / "crates" / self.crate
-        for name, text in texts.items():
-            path = base / name
-            path.parent.mkdir(parents=True, exist_ok=True)
-            if not path.exists() or path.read_text() != text:
-                path.write_text(text)
+        self.room.mkdir(parents=True)
 
     def check(self, texts, limit):
         """Checks the crate with these texts, from what the check of the unchanged crate left."""
-        inc = self.room / "target" / "inc"
-        shutil.rmtree(inc, ignore_errors=True)
+        over = self.room / "kept"
+        shutil.rmtree(over, ignore_errors=True)
         if self.kept.is_dir():
-            shutil.copytree(self.kept, inc / self.crate)
-        self.put(texts)
-        said, status, seconds = run(["rt", "dev", self.crate], self.room, limit)
-        return said, verdict(said, status), seconds
+            kit.rt.linked(str(self.kept), str(over))
+        else:
+            kit.begin(self.of, str(self.room))
+        began = time.time()
+        said, status = kit.check(self.of, texts, str(over), limit=limit)
+        return said, verdict(said, status), time.time() - began
 
     def ready(self, limit):
         """Checks the unchanged crate and keeps what that leaves. Says whether it is proved."""
+        lost = kit.build_below([self.of], False)
+        if lost:
+            return "not proved below", f"not proved: {' '.join(lost)}", 0.0
         said, result, seconds = self.check(self.texts, limit)
-        if result == "proved" and "checked=0" not in said.rsplit(f"crate {self.crate}:", 1)[-1]:
+        if result == "proved":
             shutil.rmtree(self.kept, ignore_errors=True)
-            shutil.copytree(self.room / "target" / "inc" / self.crate, self.kept)
+            shutil.move(self.room / "kept", self.kept)
         return result, said, seconds
 
     def close(self):
         shutil.rmtree(self.room, ignore_errors=True)
 
 
-def lay(room, changed):
-    """A repository with the crates of this one, of which `changed` are copies and those above them are to be proved."""
-    (room / "crates").mkdir(parents=True)
-    for part in ("log", "rlib", "stamp", "inc"):
-        (room / "target" / part).mkdir(parents=True)
+def lay(room):
+    """A copy of the repository's crates, without what rt made there."""
+    shutil.copytree(ROOT / "crates", room / "crates", ignore=shutil.ignore_patterns("out"))
     shutil.copy(ROOT / "crates.txt", room / "crates.txt")
-    anew = set(changed) | set(above(changed))
-    for name in crates():
-        source = ROOT / "crates" / name
-        if name in changed:
-            shutil.copytree(source, room / "crates" / name)
-        elif source.is_dir():
-            (room / "crates" / name).symlink_to(source)
-        rlib, stamp = TARGET / "rlib" / f"{name}.rlib", TARGET / "stamp" / name
-        if name not in anew and stamp.is_file():
-            if rlib.is_dir():
-                (room / "target" / "rlib" / rlib.name).symlink_to(rlib)
-            shutil.copy(stamp, room / "target" / "stamp" / name)
+    if (ROOT / "HANDLES").is_file():
+        shutil.copy(ROOT / "HANDLES", room / "HANDLES")
+    # (it is the top of a repository)
+    (room / ".git").mkdir()
