@@ -253,16 +253,16 @@ def decimals(crate):
 
 
 SERIES = (("src/exp.rt", "    let s{j} = 1.0 + r * {later} / {j}.0;", "    let s{j} = 1.0 + r * ({later} / {j}.0);"),
-          ("specs/Exp.antt", "foldl (λ s j. number 1 ⊕ r ⊗ s ⊘ number j) (number 1) from14",
-           "foldl (λ s j. number 1 ⊕ r ⊗ s ⊘ number j) (number 1 ⊕ r ⊗ (foldl (λ s j. number 1 ⊕ r ⊗ s ⊘ number j) (number 1) {before} ⊘ number {j})) {after}"),
-          ("specs/RawExp.antt", "use mathlib.Core.List.{{foldl}}", "use mathlib.Core.List.{{[], _∷_, foldl}}"),
+          ("specs/Exp.antt", "foldl (next_sum r) (number 1) from14",
+           "foldl (next_sum r) (number 1 ⊕ r ⊗ (foldl (next_sum r) (number 1) {before} ⊘ number {j})) {after}"),
+          ("specs/RawExp.antt", "use mathlib.Core.List.{{foldl}}", "use mathlib.Core.List.{{[], ◌∷◌, foldl}}"),
           ("specs/RawExp.antt", "foldl (λ s j. add binary64 (float 1) (div binary64 (mul binary64 r s) (float j))) (float 1) from14",
            "foldl (λ s j. add binary64 (float 1) (div binary64 (mul binary64 r s) (float j))) (add binary64 (float 1) (mul binary64 r (div binary64 "
            "(foldl (λ s j. add binary64 (float 1) (div binary64 (mul binary64 r s) (float j))) (float 1) {before}) (float {j})))) {after}"),
-          ("proofs/Exps.antt", "use mathlib.Core.Path.{{", "use mathlib.Core.List.{{[], _∷_}}\nuse mathlib.Core.Path.{{"),
-          ("proofs/Exps.antt", "raw-fold (λ _ _ j p. raw-add-from (float 1) (raw-by (float j) (r *ʳ p))) (raw-value (float 1) one-finite) from14",
-           "raw-fold (λ _ _ j p. raw-add-from (float 1) (raw-by (float j) (r *ʳ p))) (raw-add-from (float 1) (r *ʳ raw-by (float {j}) "
-           "(raw-fold (λ _ _ j p. raw-add-from (float 1) (raw-by (float j) (r *ʳ p))) (raw-value (float 1) one-finite) {before}))) {after}"))
+          ("proofs/Exps.antt", "use mathlib.Core.Path.{{", "use mathlib.Core.List.{{[], ◌∷◌}}\nuse mathlib.Core.Path.{{"),
+          ("proofs/Exps.antt", "raw_fold (λ _ _ j p. raw_add_from (float 1) (raw_by (float j) (r *ʳ p))) (raw_value (float 1) one_finite) from14",
+           "raw_fold (λ _ _ j p. raw_add_from (float 1) (raw_by (float j) (r *ʳ p))) (raw_add_from (float 1) (r *ʳ raw_by (float {j}) "
+           "(raw_fold (λ _ _ j p. raw_add_from (float 1) (raw_by (float j) (r *ʳ p))) (raw_value (float 1) one_finite) {before}))) {after}"))
 
 
 def regrouped():
