@@ -4,7 +4,7 @@ use mathlib.Core.Path.{◌≡◌, refl}
 use mathlib.Core.Bool.{Bool, true, false, cond}
 use Prim.Native.Nat.{ℕ}
 use lib.Ieee.{Float, nan, inf, fin, binary64, sub, le}
-use Rattle.common.specs.Outcome.{Outcome, value, refused, finite, check, then}
+use Rattle.common.specs.Outcome.{Outcome, value, refused, finite, check}
 use Rattle.common.specs.Formula.{◌⊖◌, size_of}
 use Rattle.common.specs.Range.{Td_box}
 use Rattle.common.proofs.Calls.{no_value, went_on}

@@ -1,5 +1,7 @@
 // Whether a state at T and d has an asked p, h or s: the property is worked there, whoever proposed the state, and its difference from the asked
 // one, rounded, may be 1e-6 in the property's unit at most. 15 otherwise.
+#![tactic(auto)]
+
 ghost use Rattle.std.specs.Prelude.{◌≡◌};
 ghost use Rattle.common.specs.Outcome.{value};
 ghost use Rattle.common.specs.Answer.{paper, paper_verdict};

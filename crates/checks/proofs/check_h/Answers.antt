@@ -1,0 +1,16 @@
+-- `checks::check_h` meets its contract: the arguments, then the property. Assumes nothing.
+use mathlib.Core.Path.{sym, ap, ◌∙◌}
+use Rattle.common.proofs.Calls.{going_on, turned_away}
+use Rattle.checks.specs.Checks.{held_to, check_h_rule}
+use Rattle.checks.proofs.check_h.Goals as goal
+
+pub returns-in-Accepted : goal.returns-in-Accepted
+unfolding check_h_rule
+returns-in-Accepted c =
+    let a = c.args in
+    let worked = c.settle.ensures ∙ sym c.raw_h.ensures.raw.is in
+    c.held.ensures ∙ ap (held_to a.h.0) worked ∙ sym (going_on c.check_asked.ensures _ c.in-Accepted.is)
+
+pub returns-in-Refused : goal.returns-in-Refused
+unfolding check_h_rule
+returns-in-Refused c = sym (turned_away c.check_asked.ensures _ _ c.in-Refused.is)
