@@ -1,6 +1,8 @@
 // The secant search of algo/root.rs, `rtsec`: the place on a curve at which the property has the asked value. What the Rust takes as a function is
 // the curve here. A place is a T or a d by the curve, and a bare number inside this file; who asks gives the two start points under their unit. The order of
 // the steps is in specs/Secant.antt; a step that is lost ends the search with 5.
+#![tactic(auto)]
+
 ghost use Rattle.std.specs.Prelude.{◌≡◌};
 ghost use Rattle.std.specs.Float.Ieee.{lt};
 ghost use Rattle.common.specs.Formula.{Raw, size_of};
@@ -11,7 +13,7 @@ use common::{KJPerKg, KJPerKgK, Kelvin, KgPerM3, MPa, Refusal, is_finite, size};
 use properties::{raw_h, raw_p, raw_s};
 
 // A property along the one of T and d that is searched, at the other, and what is asked of it.
-#[derive(Drop)]
+#[derive(Clone, Copy)]
 pub enum Curve {
     // p over T, at a density
     Isochore(KgPerM3, MPa),
@@ -22,7 +24,7 @@ pub enum Curve {
 }
 
 // The last two places, the older one first, each with what is missing there of the asked value; and the last step.
-#[derive(Drop)]
+#[derive(Clone, Copy)]
 pub struct Secant {
     pub xl: f64,
     pub fl: f64,
