@@ -1,4 +1,6 @@
 // The sum of a letter's table.
+#![tactic(auto)]
+
 ghost use Rattle.std.specs.Prelude.{◌≡◌};
 ghost use Rattle.common.specs.Outcome.{or_nan};
 ghost use Rattle.algo.specs.Table.{sum_rule, term};
