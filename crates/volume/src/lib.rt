@@ -1,4 +1,6 @@
 // The volume by its origin: the equation of each letter (S05rev), or the critical point's. A file has the name of the Rust's where the Rust has it.
+#![tactic(auto)]
+
 use common::{KgPerM3, M3PerKg, Refusal};
 use record::Origin;
 
@@ -8,7 +10,7 @@ mod region3_v_subregion_pT;
 pub use by_origin::{found_by, volume_from};
 
 // A volume equation with its reducing volume, pressure and temperature and its shifts: v*, p*, T*, a, b of table 4.
-#[derive(Drop)]
+#[derive(Clone, Copy)]
 enum Equation {
     // v / v* is the sum at p / p* - a and T / T* - b
     Plain(f64, f64, f64, f64, f64),
@@ -25,7 +27,7 @@ enum Equation {
 }
 
 // What (p,T) finds: the origin of the volume, the volume and the density.
-#[derive(Drop)]
+#[derive(Clone, Copy)]
 pub enum StateAnswer {
     Value(Origin, M3PerKg, KgPerM3),
     Refused(Refusal),
