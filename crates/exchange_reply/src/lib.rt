@@ -1,4 +1,6 @@
 // The 112 bytes that answer one record, from what was read and its entry's answer: the last 88 are that answer's reply as `answers` has it.
+#![tactic(auto)]
+
 ghost use Rattle.std.specs.Prelude.{◌≡◌};
 ghost use Rattle.record.specs.Record.{paper_record};
 ghost use Rattle.exchange_record.specs.Reading.{read_number};
