@@ -53,9 +53,17 @@ def build_below(wanted, after_ci):
     for crate in below:
         if crate.is_built():
             continue
-        print(f"proves {crate.name} first", file=sys.stderr, flush=True)
-        if {it.name for it in crate.below()} & {*failed} or crate.build_rlib([], anew=False):
+        if {it.name for it in crate.below()} & {*failed}:
             failed.append(crate.name)
+            continue
+        print(f"proves {crate.name} first", file=sys.stderr, flush=True)
+        with tempfile.TemporaryFile("w+", errors="replace") as crate.out:
+            status = crate.build_rlib([], anew=False)
+            if status:
+                crate.out.seek(0)
+                print(f"{crate.name} is not proved:\n" + "".join(f"    {it}" for it in crate.out.readlines()[-8:]), file=sys.stderr, flush=True)
+                failed.append(crate.name)
+        crate.out = sys.stdout
     return failed
 
 
