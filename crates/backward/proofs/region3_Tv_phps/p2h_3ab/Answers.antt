@@ -5,15 +5,12 @@ use lib.Ieee.{binary64, div, neg, of_bits, round}
 use Rattle.common.specs.Outcome.{or_nan}
 use Rattle.common.specs.Decimal.{plus, minus, whole, scaled}
 use Rattle.backward.specs.Backward.{n1, n2, n3, n4, h3ab}
-use Rattle.backward.proofs.region3_Tv_phps.p2h_3ab as own
+use Rattle.backward.proofs.region3_Tv_phps.p2h_3ab.Goals as goal
 
-returns : own.Tie.Need-returns
+pub returns : goal.returns
 unfolding h3ab of_bits neg plus minus whole scaled round
 returns c =
-    let π = raw_first (div binary64) c.before.args.p.0 (whole 1) in
+    let π = raw_first (div binary64) c.args.p.0 (whole 1) in
     let inner = raw_add (raw_value (or_nan n3) refl) (raw_mul (raw_value (or_nan n4) refl) π) in
     let η = raw_add (raw_value (or_nan n1) refl) (raw_mul π (raw_add (raw_value (or_nan n2) refl) (raw_mul π inner))) in
     sym (raw_times (whole 1) η).is
-
-pub p2h_3ab_spec : {M : Type 1} → own.Statement.statement M
-p2h_3ab_spec = own.Tie.close (own.Tie.spec returns)
