@@ -1,4 +1,6 @@
 // The volume at (p,T) by the subregion it lies in, and on the saturation line (the Rust's region3_v_pT).
+#![tactic(auto)]
+
 ghost use Rattle.std.specs.Prelude.{◌≡◌};
 ghost use Rattle.common.specs.Answer.{paper};
 ghost use Rattle.volume.specs.State.{paper_state};
@@ -11,7 +13,7 @@ use subregion::Letter;
 use volume::{StateAnswer, found_by, volume_from};
 
 // A side of the saturation line.
-#[derive(Drop)]
+#[derive(Clone, Copy)]
 pub enum Phase {
     Liquid,
     Steam,
