@@ -32,6 +32,7 @@ pub fn sum_of(number: u8) -> Sum
     Sum::Unnamed
 }
 
+#[tactic(auto, unfolding(crate::specs::Sums::reply_rule))]
 pub fn work(sum: Sum, vi: f64, vj: f64, is: &[i32], js: &[i32], ns: &[f64]) -> Reply
     ensures { result ≡ reply_rule sum vi vj is.now js.now ns.now }
 {
