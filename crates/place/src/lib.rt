@@ -1,5 +1,7 @@
 // From a curve, with what is asked of it, to the place that the check accepts: the start points (r3/region3_pair_ext.rs), the search, the proposal's range,
 // the check.
+#![tactic(auto)]
+
 ghost use Rattle.std.specs.Prelude.{◌≡◌};
 ghost use Rattle.common.specs.Answer.{paper, paper_verdict};
 ghost use Rattle.secant.specs.Secant.{paper_proposal};
