@@ -223,6 +223,8 @@ def shape(text):
     return [text.count(it) for it in ("{", ";", "=>", "[")] + [len(re.findall(r"\b[a-z_]\w*\(", text))]
 
 
+UNFIT = "its proof no longer fits, and that is all"
+STALE = "say only that the proof no longer fits"
 WAITS = "its proof only waits on one that is refused, so its own change is accepted or hidden behind that: put it where what it calls is right, or give the need that breaks a name of its own"
 
 
@@ -249,7 +251,7 @@ def show(edit, name, log, texts):
         waits += bool(re.search(r"it calls .*, which (is|are) not proved|waits? for", state))
     if first:
         if unfit:
-            notes.append(f"{len(unfit)} more of its errors say only that the proof no longer fits")
+            notes.append(f"{len(unfit)} more of its errors {STALE}")
         was, now = (" ".join(it) for it in ([pair.old for pair in edit.pairs if pair.of == name], [pair.new for pair in edit.pairs if pair.of == name]))
         if shape(was) != shape(now):
             notes.append("the code has another shape now, a branch, call or statement more or less: read its error")
@@ -257,32 +259,78 @@ def show(edit, name, log, texts):
     if waits:
         return "", WAITS, []
     if unfit:
-        return "", f"its proof no longer fits, and that is all: keep the code's shape. {unfit[0][:300]}", []
+        return "", f"{UNFIT}: keep the code's shape. {unfit[0][:300]}", []
     return "", f"it is {log.states[name]}" if "::" in name else "no error stands there", []
 
 
+OPERATORS = {"<": "lt", "<=": "le", ">": "gt", ">=": "ge", "==": "eq", "!=": "ne"}
+FLIPPED = {"<": ">", "<=": ">=", ">": "<", ">=": "<=", "==": "==", "!=": "!="}
+LITERAL = r"-?(?:0x[0-9a-fA-F_]+|\d[\d_]*)(?![\w.])"
+
+
+def compared(code):
+    """How the prover names the comparisons with a whole number in this code, in order: `lt38` of k < 38."""
+    found = []
+    for m in re.finditer(rf"(?:(?<![-%*/+&|^] )(?<![\w.])({LITERAL})|[\w)\]]) (<=|>=|<|>|==|!=) (?:({LITERAL})|\S)", code):
+        number = m[3] or m[1]
+        if number and not (m[1] and m[3]):
+            value = int(number.replace("_", ""), 0)
+            found.append(OPERATORS[m[2] if m[3] else FLIPPED[m[2]]] + (f"minus{-value}" if value < 0 else str(value)))
+    return found
+
+
+def fitted(edit, texts, name):
+    """The proof files of a function with the names that its goals and places have under the edit: a name has the number of a comparison in it, and where the
+    edit changes that number the proof would name what is gone."""
+    turns = {}
+    for pair in edit.pairs:
+        if pair.of == name:
+            was, now = compared(pair.old), compared(pair.new)
+            turns |= {a: b for a, b in zip(was, now) if a != b and len(was) == len(now)}
+    made = {}
+    for file, text in texts.items():
+        if turns and own(edit.crate, name, file, texts):
+            other = re.sub(r"[A-Za-z]\w*(?:-\w+)+", lambda m: re.sub(r"(?<=-)[a-z]+\d+", lambda n: turns.get(n[0], n[0]), m[0]), text)
+            if other != text:
+                made[file] = other
+    return made
+
+
 def tried(crate, edit, texts, kept, check, log_to):
-    """What is seen of each name of the edit: {name: (how, why not, notes)}. Names that wait are tried again with their own changes alone. What the prover
-    says at each turn is left in log_to."""
-    found, wait = {}, list(edit.names)
-    some = None
-    for turn in range(12):
+    """What is seen of each name of the edit: {name: (how, why not, notes)}. Names that wait are tried again with their own changes alone; and where a proof
+    names what the edit took away, the function is tried once more with the names that the edit gave. What the prover says at each turn is left in log_to."""
+    found = {}
+
+    def turn(names, some, proofs):
+        """One check with the changes of the functions `some`, or all, over these proof files: what it shows of the names, or nothing where it refuses nothing."""
         changed = applied(edit, texts, some)
         if changed is None:
-            found |= {name: ("", f"{WAITS}; and its own changes cannot be made alone", []) for name in wait}
-            break
+            return {name: ("", f"{WAITS}; and its own changes cannot be made alone", []) for name in names}
+        changed = {**changed, **proofs}
         said, status = check(crate, changed, kept)
-        Path(f"{log_to}.{turn + 1}.log").write_text(said, encoding="utf8")
+        turn.count += 1
+        Path(f"{log_to}.{turn.count}.log").write_text(said, encoding="utf8")
         log = log_of(said, {**texts, **changed}, crate.name)
         if status == 0 or not log.reached:
             last = said.rstrip().split("\n")[-1][:200]
             why = "NOT REFUSED: the crate is still proved with its change" if status == 0 else f"the prover refused nothing, and ended with status {status}: {last}"
-            found |= {name: ("", why, []) for name in wait}
-            break
-        now = {name: show(edit, name, log, texts) for name in wait}
+            return {name: ("", why, []) for name in names}
+        return {name: show(edit, name, log, texts) for name in names}
+
+    turn.count = 0
+    wait, some = list(edit.names), None
+    while wait:
+        now = turn(wait, some, {})
         found |= now
         left = [name for name, (how, why, _) in now.items() if not how and why == WAITS]
-        if not left or len(left) == len(wait) and some is not None or not edit.parts():
+        if len(left) == len(wait) and some is not None or not edit.parts():
             break
         wait, some = left, {*left}
+    proofs = {name: fitted(edit, texts, name) for name, (how, why, notes) in found.items() if "::" in name and (why.startswith(UNFIT) or any(STALE in it for it in notes))}
+    proofs = {name: files for name, files in proofs.items() if files}
+    if proofs:
+        now = turn(list(proofs), {*proofs} if edit.parts() else None, {file: text for files in proofs.values() for file, text in files.items()})
+        for name, (how, why, notes) in now.items():
+            if how or why != WAITS:
+                found[name] = how, why, [*notes, "its proof has the names that the edit gave"]
     return found
