@@ -1,4 +1,6 @@
 // (p,v), (T,h) and (T,s): the search proposes the missing T or d, and the check accepts it (r3/region3_pair_ext.rs, `pv_reg3` of r3/region3.rs).
+#![tactic(auto)]
+
 use common::Verdict;
 use record::Record;
 
