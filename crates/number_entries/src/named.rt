@@ -46,6 +46,7 @@ pub fn at_boundary(n: i32, p: MPa) -> Reply
 }
 
 // A volume equation by its letter's ASCII.
+#[tactic(auto, unfolding(crate::specs::Numbers::letter_volume_reply))]
 pub fn by_letter(n: i32, p: MPa, t: Kelvin) -> Reply
     ensures { result ≡ letter_volume_reply n p.0 t.0 }
 {
