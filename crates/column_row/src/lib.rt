@@ -1,5 +1,7 @@
 // One row of the column run: a letter byte, a density and a refusal byte from p and T (specs/Row.antt). It is worked in two turns, since a column run
 // works all rows' letters before all densities: `mark` and `stop` where the volume comes from, `line_of` the volume (specs/TwoTurns.antt).
+#![tactic(auto)]
+
 ghost use Rattle.std.specs.Prelude.{◌≡◌};
 ghost use Rattle.common.specs.Outcome.{number_in};
 ghost use Rattle.origin.specs.Origin.{paper_origin};

@@ -13,7 +13,7 @@ use record::Origin;
 use subregion::LetterAnswer;
 
 // Where a (p,T) call takes its volume from.
-#[derive(Drop)]
+#[derive(Clone, Copy)]
 pub enum OriginAnswer {
     Value(Origin),
     Refused(Refusal),
