@@ -8,7 +8,9 @@ use Rattle.checks.proofs.compared.Goals as goal
 
 pub returns-then-is_finite : goal.returns-then-is_finite
 unfolding held_to of_bits decimal scaled
-returns-then-is_finite c = rw (check_kept _ (sym c.is_finite.ensures ∙ c.if-is_finite.true)) (c.judged.ensures ∙ ap (λ e. judged_by (le e NEAR)) c.size.ensures)
+returns-then-is_finite c =
+    rw (check_kept _ (sym c.is_finite.ensures ∙ c.if-is_finite.true))
+    (c.judged.ensures ∙ ap (λ e. judged_by (le e NEAR)) c.size.ensures)
 
 pub returns : goal.returns
 unfolding held_to
