@@ -35,7 +35,7 @@ pub columns_one : (κs : Lfts 5) (a : Dens κs own.run.columns.Kinds.ps) (d e : 
     → (x ≡ y) × (d.1.1.0.now ≡ e.1.1.0.now) × (d.1.1.1.0.now ≡ e.1.1.1.0.now) × (d.1.1.1.1.0.now ≡ e.1.1.1.1.0.now)
 columns_one κs a d e x y p q = same_run _ x y _ _ p q
 
--- `columns_of` has no `Reads`, being proved by hand: what its `ensures` clause says is read off the clause itself
+-- what the `ensures` clause of `columns_of` says is read off the clause itself
 module _ (κs : Lfts 5) (a : Args columns_of.signature κs) where
   abbrev pub Says : Verdict → AtExit columns_of.ended κs → Type 0
   Says x d =

@@ -1,4 +1,6 @@
 // The column run: `columns_of` is the run under its units; `columns` takes the slices as a caller in C lends them.
+#![tactic(auto)]
+
 mod run;
 mod units;
 
