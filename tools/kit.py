@@ -43,9 +43,10 @@ def as_ci_left(crates):
     return all(os.path.isfile(f"{it.rlib}/format") and not os.path.exists(f"{it.folder}/out/rlib/stamp") for it in crates)
 
 
-def build_below(wanted, after_ci):
-    """Builds the libraries below the wanted crates where they are not built of this text, and returns the names of those that are not proved."""
-    below = list(dict.fromkeys(it for crate in wanted for it in crate.below()))
+def build_below(wanted, after_ci, themselves=False):
+    """Builds the libraries below the wanted crates, and they themselves where that is asked, where they are not built of this text, and returns the names of
+    those that are not proved."""
+    below = list(dict.fromkeys(it for crate in wanted for it in [*crate.below(), *[crate] * (themselves and crate.makes_rlib())]))
     if after_ci and as_ci_left(below):
         return []
     rt.share_work(False)
@@ -158,10 +159,12 @@ def build(crate, to, module=None):
 
 
 def main(words):
-    """python3 tools/kit.py build [--after-ci]: builds what is not built of the libraries; snippet FOLDER CRATE..: compiles FOLDER/src, and says what rattle says."""
+    """python3 tools/kit.py build [--after-ci] [CRATE..]: builds what is not built of these libraries and those below them, or of all; snippet FOLDER CRATE..: compiles
+    FOLDER/src over these, and says what rattle says."""
     every = crates()
     if words[:1] == ["build"]:
-        lost = build_below([it for it in every.values()], "--after-ci" in words)
+        names = [it for it in words[1:] if it != "--after-ci"]
+        lost = build_below([every[it] for it in names or every], "--after-ci" in words, themselves=True)
         for name in lost:
             print(f"{name} is not proved")
         return 1 if lost else 0
