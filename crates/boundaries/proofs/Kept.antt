@@ -18,7 +18,7 @@ use Rattle.sizes.proofs.Band.{Band}
 use Rattle.sizes.proofs.Most.{Most, of_band, grown, mul_most, add_most, sub_most}
 use Rattle.rules.specs.RawPower.{raw_power}
 use Rattle.rules.proofs.Usual.{power_band, same_power}
-use Rattle.boundaries.specs.Boundary.{Term, term, in_p, inLn, Row, row, table, row_at, Form, tabled, straight, form_of}
+use Rattle.boundaries.specs.Boundary.{Term, term, in_p, in_ln, Row, row, table, row_at, Form, tabled, straight, form_of}
 use Rattle.boundaries.specs.Raw.{argument_in, raw_argument, raw_sum, raw_form, bare_at, bare_term, Bare}
 use Rattle.boundaries.specs.declared.Boundary.{Boundary}
 use Rattle.boundaries.proofs.TableSums.{small, at_every, row_in_p, polynomial, form_in_p, in_p_lem}
@@ -74,7 +74,7 @@ unfolding raw_sum
 row_kept (row in_p ts) p b i h =
     let light = both_left (every light_term ts) (room 44 ts) h in
     total_kept p b 44 zero_f ts (omega arith) (constant 44 zero_f tt) light (both_right (every light_term ts) (room 44 ts) h)
-row_kept (row inLn ts) p b i h = absurd i
+row_kept (row in_ln ts) p b i h = absurd i
 
 table_light : (k : ℕ) → T (light_row (row_at k))
 unfolding table row_at every plus minus scaled round neg

@@ -21,7 +21,7 @@ use Rattle.inverses.specs.Log.{logarithm_rule}
 use Rattle.rules.proofs.Powers.{power_looked}
 use Rattle.rules.proofs.Usual.{usual_raw}
 use Rattle.sizes.specs.Usual.{usual_base}
-use Rattle.boundaries.specs.Boundary.{Term, term, in_p, inLn, Row, row, table, term_rule, walk_rule, at, row_at}
+use Rattle.boundaries.specs.Boundary.{Term, term, in_p, in_ln, Row, row, table, term_rule, walk_rule, at, row_at}
 use Rattle.boundaries.specs.Boundary.{straight3ef, Form, tabled, straight, form_of, form_rule, boundary_of}
 use Rattle.boundaries.specs.Raw.{argument_in, raw_argument, raw_term, raw_sum, raw_form, raw_at, bare_at, bare_term, Bare}
 use Rattle.boundaries.specs.declared.Boundary.{Boundary}
@@ -81,7 +81,7 @@ row_check : (r : Row) (p : Float) → T (filled r) → check (raw_sum false r (r
 unfolding raw_sum walk_rule
 row_check (row a []) p h = absurd h
 row_check (row in_p (t ∷ ts)) p h = sym (any_sum p (t ∷ ts))
-row_check (row inLn (term i n ∷ ts)) p h = sym (of_outcome i n ts (logarithm_rule p))
+row_check (row in_ln (term i n ∷ ts)) p h = sym (of_outcome i n ts (logarithm_rule p))
 
 -- ---- the two kinds of powers at a usual x
 
@@ -109,12 +109,12 @@ usual_sum (row a ts) x u h = usual_total x u zero_f ts h
 
 abbrev pub row_in_p : Row → Bool
 row_in_p (row in_p ts) = true
-row_in_p (row inLn ts) = false
+row_in_p (row in_ln ts) = false
 
 bare_check : (r : Row) (p : Float) → Bare p → T (row_in_p r) → T (few r) → check (raw_sum true r (raw_argument (argument_in r) p)) ≡ walk_rule r p
 unfolding raw_sum walk_rule
 bare_check (row in_p ts) p bare i h = sym (sum_check p bare ts h)
-bare_check (row inLn ts) p bare i h = absurd i
+bare_check (row in_ln ts) p bare i h = absurd i
 
 -- ---- the table
 

@@ -10,7 +10,7 @@ use Rattle.common.specs.Range.{p_box}
 use Rattle.common.specs.Sum.{total}
 use Rattle.rules.specs.Power.{power_rule}
 use Rattle.inverses.specs.Log.{logarithm_rule}
-pub use Rattle.printed_lines.specs.Boundaries.{Term, term, Argument, in_p, inLn, Row, row}
+pub use Rattle.printed_lines.specs.Boundaries.{Term, term, Argument, in_p, in_ln, Row, row}
 unfoldable pub use Rattle.printed_lines.specs.Boundaries.{table}
 use Rattle.boundaries.specs.declared.Boundary.{Boundary}
 use Rattle.boundaries.specs.declared.Boundary.TheVariants.{Ab, Cd, Ef, Gh, Ij, Jk, Mn, Op, Qu, Rx, Uv, Wx}
@@ -21,7 +21,7 @@ term_rule x (term i n) = then (inside (power_rule x i)) (λ w. check (mul binary
 
 abbrev pub argument_rule : Argument → Float → Outcome Float
 argument_rule in_p p = value p
-argument_rule inLn p = inside (logarithm_rule p)
+argument_rule in_ln p = inside (logarithm_rule p)
 
 -- the walk over a row: from +0.0 on its terms are added in their order
 unfoldable pub walk_rule : Row → Float → Outcome Float

@@ -9,7 +9,7 @@ use Rattle.rules.specs.Power.{power_rule}
 use Rattle.rules.specs.RawPower.{raw_power}
 use Rattle.inverses.specs.Log.{logarithm_rule}
 use Rattle.boundaries.specs.Boundary as paper
-use Rattle.boundaries.specs.Boundary.{term, Argument, in_p, inLn, row, row_at, Form, tabled, straight, form_of}
+use Rattle.boundaries.specs.Boundary.{term, Argument, in_p, in_ln, row, row_at, Form, tabled, straight, form_of}
 use Rattle.boundaries.specs.declared.Boundary.{Boundary}
 use Rattle.boundaries.specs.declared.table.Term.{Term}
 use Rattle.boundaries.specs.declared.table.Fifth.{Fifth}
@@ -19,7 +19,7 @@ use Rattle.boundaries.specs.declared.table.Row.{Row}
 -- ---- a row of the code
 
 abbrev pub argument_of : Bool → Argument
-argument_of true = inLn
+argument_of true = in_ln
 argument_of false = in_p
 
 abbrev pub term_of : Term → paper.Term
@@ -36,7 +36,7 @@ row_of r = row (argument_of r.ln) (term_of r.t1 ∷ term_of r.t2 ∷ term_of r.t
 
 abbrev pub raw_argument : Argument → Float → Float
 raw_argument in_p p = p
-raw_argument inLn p = or_nan (logarithm_rule p)
+raw_argument in_ln p = or_nan (logarithm_rule p)
 
 abbrev pub argument_in : paper.Row → Argument
 argument_in (row a ts) = a

@@ -8,7 +8,7 @@ use Rattle.border.specs.Border.{region3_box}
 use Rattle.subregion.specs.declared.Letter.{Letter}
 use Rattle.subregion.specs.declared.Letter.TheVariants.{G, L}
 use Rattle.r4.specs.Saturation.{p_saturation, T_saturation}
-use Rattle.choosers.specs.Choosers.{Band, ab, cdef, cghijk, clhijk, clmnopjk, cq-rk, csrk, cst, ct, band_of, ab_by, cdef_by, chijk_by, clmnopjk_by, csrk_by, cst_by, ct_by, around, uvwx_by, uyzx_by, saturated_by}
+use Rattle.choosers.specs.Choosers.{Band, ab, cdef, cghijk, clhijk, clmnopjk, cq_rk, csrk, cst, ct, band_of, ab_by, cdef_by, chijk_by, clmnopjk_by, csrk_by, cst_by, ct_by, around, uvwx_by, uyzx_by, saturated_by}
 use Rattle.boundaries.specs.Boundary.{boundary_of}
 use Rattle.boundaries.specs.declared.Boundary.TheVariants.{Ab, Cd, Ef, Gh, Ij, Jk, Mn, Op, Qu, Rx, Uv, Wx}
 
@@ -84,7 +84,7 @@ in_band cdef p t = cdef_rule p t
 in_band cghijk p t = chijk_rule G p t
 in_band clhijk p t = chijk_rule L p t
 in_band clmnopjk p t = clmnopjk_rule p t
-in_band cq-rk p t = cq_rk_rule p t
+in_band cq_rk p t = cq_rk_rule p t
 in_band csrk p t = csrk_rule p t
 in_band cst p t = cst_rule p t
 in_band ct p t = ct_rule p t

@@ -10,13 +10,13 @@ use Rattle.subregion.specs.declared.Letter.TheVariants.{A, B, C, D, E, F, H, I, 
 
 -- a band has the name of its letters
 pub data Band : Type 0 where
-  ab cdef cghijk clhijk clmnopjk cq-rk csrk cst ct : Band
+  ab cdef cghijk clhijk clmnopjk cq_rk csrk cst ct : Band
 
 -- up to 23 MPa; limit is p_saturation(643.15)
 abbrev pub band_to23 : Float → Float → Band
 band_to23 limit p =
     cond (lt (decimal 22_5 1) p) clmnopjk
-    (cond (lt limit p) cq-rk
+    (cond (lt limit p) cq_rk
     (cond (lt (decimal 20_5 1) p) csrk
     (cond (lt (decimal 19_00881189173929 14) p) cst
     ct)))

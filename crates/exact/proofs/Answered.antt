@@ -16,7 +16,7 @@ use Rattle.border.specs.Border.{region3_box}
 use Rattle.rounding.specs.Fraction.{scaled_by}
 use Rattle.subregion.specs.declared.Letter.{Letter}
 use Rattle.subregion.specs.declared.LetterAnswer.TheVariants.{Value}
-use Rattle.choosers.specs.Choosers.{Band, ab, cdef, cghijk, clhijk, clmnopjk, cq-rk, csrk, cst, ct, band_of}
+use Rattle.choosers.specs.Choosers.{Band, ab, cdef, cghijk, clhijk, clmnopjk, cq_rk, csrk, cst, ct, band_of}
 use Rattle.r4.specs.Saturation.{T_saturation}
 use Rattle.boundary.specs.Choice.{ab_rule, cdef_rule, chijk_rule, clmnopjk_rule, near_rule, cq_rk_rule, csrk_rule, cst_rule, ct_rule, in_band, letter_at, letter_rule}
 use Rattle.boundary.proofs.Limit.{limit_is}
@@ -25,7 +25,7 @@ use Rattle.boundary.proofs.sub_region3_pT.Reads as choice
 use Rattle.distance.specs.Exact.{ef, uv, Q}
 use Rattle.distance.specs.Letter.{All}
 use Rattle.distance.proofs.Contract.{taken}
-use Rattle.exact_lines.specs.Letter.{Line, in_p, line3wx, saturationLine, exact_band, lines_of}
+use Rattle.exact_lines.specs.Letter.{Line, in_p, line3wx, saturation_line, exact_band, lines_of}
 use Rattle.exact.specs.Premises.{InBox}
 use Rattle.exact.proofs.BandLimit.{f64_limit}
 use Rattle.exact.proofs.Judged.{InRange}
@@ -73,7 +73,7 @@ module _ (p t : Float) (g : Placed p t) where
     where
       go : (b : Bool) → lt (decimal 22_064 3) p ≡ b → Answered (cond b (value x) (then (T_saturation p) f))
       go true e = answer x
-      go false e = let s = accept p t g saturationLine (sat_range p t g (low e)) in after _ s.number s.is (h s.number)
+      go false e = let s = accept p t g saturation_line (sat_range p t g (low e)) in after _ s.number s.is (h s.number)
 
   near_answered : P ≤ 23 * Q → Answered (near_rule p t)
   unfolding near_rule
@@ -102,7 +102,7 @@ module _ (p t : Float) (g : Placed p t) where
           (after _ e.number e.is
           (after _ g.number g.is
           (after _ i.number i.is (after _ k.number k.is (after _ m.number m.is (after _ o.number o.is (answer _)))))))
-      go cq-rk r (c, (q, (x, (k, _)))) =
+      go cq_rk r (c, (q, (x, (k, _)))) =
           after _ c.number c.is
           (after _ q.number q.is
           (after _ x.number x.is

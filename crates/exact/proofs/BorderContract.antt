@@ -32,7 +32,7 @@ use Rattle.boundaries.specs.Raw.{raw_at}
 use Rattle.boundaries.specs.declared.Boundary.{Boundary}
 use Rattle.boundaries.specs.declared.Boundary.TheVariants.{Ab, Cd, Ef, Gh, Ij, Jk, Mn, Op, Qu, Rx, Uv, Wx}
 use Rattle.boundaries.proofs.TableSums.{boundary_check}
-use Rattle.choosers.specs.Choosers.{Band, ab, cdef, cghijk, clhijk, clmnopjk, cq-rk, csrk, cst, ct, band_of}
+use Rattle.choosers.specs.Choosers.{Band, ab, cdef, cghijk, clhijk, clmnopjk, cq_rk, csrk, cst, ct, band_of}
 use Rattle.boundary.specs.Choice.{ab_rule, cdef_rule, chijk_rule, clmnopjk_rule, near_rule, cq_rk_rule, csrk_rule, cst_rule, ct_rule, in_band, limit, letter_at}
 use Rattle.boundary.specs.Choice.{letter_rule}
 use Rattle.boundary.proofs.Limit.{limit_is}
@@ -88,7 +88,7 @@ module _ (p t : Float) where
   band_not clhijk = line Cd _ (λ tcd. line Ef _ (λ tef. line Gh _ (λ tgh. line Ij _ (λ tij. line Jk _ (λ tjk. letter _)))))
   band_not clmnopjk =
       line Cd _ (λ tcd. line Ef _ (λ tef. line Gh _ (λ tgh. line Ij _ (λ tij. line Jk _ (λ tjk. line Mn _ (λ tmn. line Op _ (λ top. letter _)))))))
-  band_not cq-rk =
+  band_not cq_rk =
       line Cd _ (λ tcd. line Qu _ (λ tqu. line Rx _ (λ trx. line Jk _ (λ tjk.
       either (le t tcd) (letter C) (either (le t tqu) (letter Q) (either (lt trx t && le t tjk) (letter R) (either (lt tjk t) (letter K) near_not)))))))
   band_not csrk = line Cd _ (λ tcd. line Jk _ (λ tjk. saturated _ (λ tsat. letter _)))

@@ -25,7 +25,7 @@ use Rattle.boundary.specs.Choice.{near_rule}
 use Rattle.distance.specs.Exact.{Polynomial, ef, uv, temperature, Q}
 use Rattle.distance.specs.Letter.{All}
 use Rattle.exact_lines.specs.Saturation.{saturation}
-use Rattle.exact_lines.specs.Letter.{Line, in_p, line3wx, saturationLine, line_at, above, near_lines, near_letter}
+use Rattle.exact_lines.specs.Letter.{Line, in_p, line3wx, saturation_line, line_at, above, near_lines, near_letter}
 use Rattle.exact.specs.Premises.{Off}
 use Rattle.rounding.proofs.Compare.{Sided}
 use Rattle.exact.proofs.Judged.{InRange, Judged, Followed, reach, scale_positive, followed, judge_by, judge, judge_all}
@@ -52,7 +52,7 @@ module _ (p t : Float) (g : Placed p t) where
       more : (Q : ℕ) → 16528 * Q < P * 1000 → 16 * Q ≤ P
       more Q h = omega arith
 
-  pub sat_range : P * 1000 ≤ 22065 * Q → InRange P saturationLine
+  pub sat_range : P * 1000 ≤ 22065 * Q → InRange P saturation_line
   sat_range h = (g.upto_100, g.from_16, h)
 
   near_ranges : (b c d : Bool) → P ≤ 23 * Q → (T (not b) → P * 1000 ≤ 22065 * Q) → All (InRange P) (near_lines_by b c d)
@@ -189,9 +189,9 @@ module _ (p t : Float) (g : Placed p t) where
     A2 = scaled_by 48 p2
 
     abbrev letter_2 : Outcome Letter
-    letter_2 = value (cond (below saturationLine) (cond (below (in_p uv)) letters.U letters.Y) (cond (below line3wx) letters.Z letters.X))
+    letter_2 = value (cond (below saturation_line) (cond (below (in_p uv)) letters.U letters.Y) (cond (below line3wx) letters.Z letters.X))
 
-    lines_2 : P ≡ A2 → All O (near_lines P) → All O (saturationLine ∷ in_p uv ∷ line3wx ∷ [])
+    lines_2 : P ≡ A2 → All O (near_lines P) → All O (saturation_line ∷ in_p uv ∷ line3wx ∷ [])
     unfolding decimal scaled round scaled_by
     lines_2 e s =
         rw (above_at 22_064 1000 A2 e false refl, above_at 21_93161551 (10 ^ 8) A2 e true refl, above_at 21_90096265 (10 ^ 8) A2 e true refl) at s
@@ -215,16 +215,16 @@ module _ (p t : Float) (g : Placed p t) where
     upto_22_065 : (A : ℕ) → A * 1000 ≤ 22065 * Q → P ≡ A → P * 1000 ≤ 22065 * Q
     upto_22_065 A h e = subst (λ (z : ℕ). z * 1000 ≤ 22065 * Q) (sym e) h
 
-    at_2 : P ≡ A2 → P ≤ 23 * Q → All O (saturationLine ∷ in_p uv ∷ line3wx ∷ []) → near_rule p t ≡ letter_2
+    at_2 : P ≡ A2 → P ≤ 23 * Q → All O (saturation_line ∷ in_p uv ∷ line3wx ∷ []) → near_rule p t ≡ letter_2
     unfolding decimal scaled round scaled_by near_rule fits
     at_2 e m s =
         let q : p ≡ p2 = point_is p2 A2 tt exact_21_9316 e in
-        let a = j saturationLine (sat_range (upto_22_065 A2 (lit≤ tt) e)) s.0 in
+        let a = j saturation_line (sat_range (upto_22_065 A2 (lit≤ tt) e)) s.0 in
         let u = accept (in_p uv) m in
         let f = accept (in_p ef) (wide 23 40 m (lit≤ tt)) in
         let w = j line3wx (wx_range m) s.1.1.0 in
         let by-uv = beside uv S2 A2 e near2 s.1.0 in
-        let one : below saturationLine ≡ below (in_p uv) =
+        let one : below saturation_line ≡ below (in_p uv) =
         sym a.sided.upto ∙ ap (le t) (one_value a.number S2 a.is (ap T_saturation q ∙ sat2)) ∙ by-uv.upto in
         rw (u.is, w.is, f.is, a.is)
         (rw (
@@ -235,16 +235,16 @@ module _ (p t : Float) (g : Placed p t) where
           a.sided.upto,
           w.sided.under,
         )
-        (ap value (same_2 (below saturationLine) (below (in_p uv)) (below line3wx) one)))
+        (ap value (same_2 (below saturation_line) (below (in_p uv)) (below line3wx) one)))
 
     -- ---- 21.90096265: 3wx is the saturation temperature
     abbrev A3 : ℕ
     A3 = scaled_by 48 p3
 
     abbrev letter_3 : Outcome Letter
-    letter_3 = value (cond (below saturationLine) letters.U (cond (below line3wx) letters.Z letters.X))
+    letter_3 = value (cond (below saturation_line) letters.U (cond (below line3wx) letters.Z letters.X))
 
-    lines_3 : P ≡ A3 → All O (near_lines P) → All O (saturationLine ∷ line3wx ∷ [])
+    lines_3 : P ≡ A3 → All O (near_lines P) → All O (saturation_line ∷ line3wx ∷ [])
     unfolding decimal scaled round scaled_by
     lines_3 e s =
         rw (above_at 22_064 1000 A3 e false refl, above_at 21_93161551 (10 ^ 8) A3 e false refl, above_at 21_90096265 (10 ^ 8) A3 e true refl) at s
@@ -264,16 +264,16 @@ module _ (p t : Float) (g : Placed p t) where
     same_3 false true e = absurd (true≢false (sym e))
     same_3 false false e = refl
 
-    at_3 : P ≡ A3 → P ≤ 23 * Q → All O (saturationLine ∷ line3wx ∷ []) → near_rule p t ≡ letter_3
+    at_3 : P ≡ A3 → P ≤ 23 * Q → All O (saturation_line ∷ line3wx ∷ []) → near_rule p t ≡ letter_3
     unfolding decimal scaled round scaled_by near_rule line_at fits
     at_3 e m s =
         let q : p ≡ p3 = point_is p3 A3 tt exact_21_9010 e in
         let r = sat_range (upto_22_065 A3 (lit≤ tt) e) in
-        let a = j saturationLine r s.0 in
+        let a = j saturation_line r s.0 in
         let u = accept (in_p uv) m in
         let f = accept (in_p ef) (wide 23 40 m (lit≤ tt)) in
         let w = j line3wx (wx_range m) s.1.0 in
-        let v = followed p P g.p_f64 g.whole_p saturationLine r in
+        let v = followed p P g.p_f64 g.whole_p saturation_line r in
         let v-is : v.number ≡ S3 = one_value v.number S3 v.is (ap T_saturation q ∙ sat3) in
         let near-wx : Followed (value W3) (λ k. saturation k P) 2 reach = record {
           number = W3;
@@ -281,9 +281,9 @@ module _ (p t : Float) (g : Placed p t) where
           close = λ k deep. near3 (saturation k P) (subst (λ (z : Float). Near z (saturation k P) 1 reach) v-is (v.close k deep));
           positive = v.positive;
         } in
-        let by-wx : Sided t W3 (below saturationLine) =
-        judge_by p P g.p_f64 g.whole_p t n g.whole_t {θ = λ k. saturation k P} (lit< tt) near-wx (below saturationLine) s.0 in
-        let one : below saturationLine ≡ below line3wx =
+        let by-wx : Sided t W3 (below saturation_line) =
+        judge_by p P g.p_f64 g.whole_p t n g.whole_t {θ = λ k. saturation k P} (lit< tt) near-wx (below saturation_line) s.0 in
+        let one : below saturation_line ≡ below line3wx =
         sym by-wx.upto ∙ ap (le t) (sym (one_value w.number W3 w.is (ap (boundary_of Wx) q ∙ wx3))) ∙ w.sided.upto in
         rw (u.is, w.is, f.is, a.is)
         (rw (
@@ -293,7 +293,7 @@ module _ (p t : Float) (g : Placed p t) where
           lt_at p3 A3 A3 exact_21_9010 e false refl,
           a.sided.upto,
         )
-        (ap value (same_3 (below saturationLine) (below line3wx) one)))
+        (ap value (same_3 (below saturation_line) (below line3wx) one)))
 
     pub near_is : P ≤ 23 * Q → All O (near_lines P) → near_rule p t ≡ value (near_letter below P)
     near_is m s = go (ℕ_discrete P A1) (ℕ_discrete P A2) (ℕ_discrete P A3)

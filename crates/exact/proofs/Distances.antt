@@ -32,7 +32,7 @@ use Rattle.boundaries.proofs.T_atRegionBoundary.Reads as line-call
 use Rattle.distance.specs.Exact.{Q}
 use Rattle.distance.specs.Distance.{unit}
 use Rattle.distance.proofs.Pressure.{whole_value}
-use Rattle.exact_lines.specs.Letter.{line3ab, line3op, line3wx, saturationLine, line_at}
+use Rattle.exact_lines.specs.Letter.{line3ab, line3op, line3wx, saturation_line, line_at}
 use Rattle.exact_lines.specs.Border.{border}
 use Rattle.exact.specs.Distance.{distance3ab, distance3op, distance3wx, saturation_distance, border_distance, Follows}
 use Rattle.exact.specs.Premises.{InBox}
@@ -137,11 +137,11 @@ module _ (p : Float) (held : T (fits binary64 p)) (from : T (le p_range_from p))
       (le_of_mul-le-mul_right (values_of_le p p_max4 P4 Q (scaled_by 48 p_max4) Q positive_p tt place.whole_p max_value to) (pow_pos 48)))
       (lit≤ tt)
 
-  pub distance_saturation : Follows (line_at saturationLine P4) saturation_distance (T_saturation_rule p)
+  pub distance_saturation : Follows (line_at saturation_line P4) saturation_distance (T_saturation_rule p)
   unfolding T_saturation_rule line_at
   distance_saturation =
       let s = saturation_near p P4 held place.whole_p place.upto_100 place.from_16 upto_critical in
-      follows {o = T_saturation_rule p} (line_at saturationLine P4) saturation_distance s.number
+      follows {o = T_saturation_rule p} (line_at saturation_line P4) saturation_distance s.number
       (rw (place.finite_p, is_true (le p_range_from p) from, is_true (le p p_max4) to) s.is) s.close
 
 -- ---- on the contracts
@@ -162,9 +162,9 @@ module _ (κs : Lfts 0) (a : Dens κs line-kinds.ps) (e : AtExit (ended_of 0 lin
 
 pub answers_saturation : (κs : Lfts 0) (a : Dens κs saturation-kinds.ps) (e : AtExit (ended_of 0 saturation-kinds.ps saturation-kinds.r) κs)
     (r : (res_t saturation-kinds.r κs).Denot) → saturation-call.Post κs a r e → T (fits binary64 a.0.0) → T (le p_range_from a.0.0) → T (le a.0.0 p_max4)
-    → Follows (line_at saturationLine (scaled_by 48 a.0.0)) saturation_distance (paper r)
+    → Follows (line_at saturation_line (scaled_by 48 a.0.0)) saturation_distance (paper r)
 answers_saturation κs a e r post held from to =
-    subst (Follows (line_at saturationLine (scaled_by 48 a.0.0)) saturation_distance) (sym post) (distance_saturation a.0.0 held from to)
+    subst (Follows (line_at saturation_line (scaled_by 48 a.0.0)) saturation_distance) (sym post) (distance_saturation a.0.0 held from to)
 
 pub answers_border : (κs : Lfts 0) (a : Dens κs border-kinds.ps) (e : AtExit (ended_of 0 border-kinds.ps border-kinds.r) κs)
     (r : (res_t border-kinds.r κs).Denot) → border-call.Post κs a r e → T (fits binary64 a.0.0) → T (le p_range_from a.0.0) → T (le a.0.0 p_range_to)

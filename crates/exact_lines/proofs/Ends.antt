@@ -8,7 +8,7 @@ use lib.Dec.{eqb}
 use Rattle.subregion.specs.declared.Letter.{Letter}
 use Rattle.subregion.specs.declared.Letter.TheVariants as letters
 use Rattle.distance.specs.Exact.{Polynomial, cd, ef, gh, ij, jk, mn, qu, rx, uv, Q}
-use Rattle.exact_lines.specs.Letter.{Line, in_p, line3ab, line3op, line3wx, saturationLine, exact_band, exact_letter}
+use Rattle.exact_lines.specs.Letter.{Line, in_p, line3ab, line3op, line3wx, saturation_line, exact_band, exact_letter}
 
 -- a number for each line, to tell them apart
 abbrev polynomial_number : Polynomial → ℕ
@@ -27,7 +27,7 @@ line_number (in_p b) = polynomial_number b
 line_number line3ab = 9
 line_number line3op = 10
 line_number line3wx = 11
-line_number saturationLine = 12
+line_number saturation_line = 12
 
 -- T below these lines and no other
 abbrev below_these : List Line → Line → Bool
@@ -58,10 +58,10 @@ ends =
     ∷ end 22_5 1 true (in_p qu ∷ in_p mn ∷ []) letters.Q letters.M
     ∷ end 22_11 2 true (near (in_p ef ∷ [])) letters.Y letters.«V»
     ∷ end 22_064 3 true (near (in_p ef ∷ [])) letters.X letters.Y
-    ∷ end 21_93161551 8 true (near (saturationLine ∷ [])) letters.U letters.Y
+    ∷ end 21_93161551 8 true (near (saturation_line ∷ [])) letters.U letters.Y
     ∷ end 21_90096265 8 true (near (line3wx ∷ [])) letters.X letters.Z
     ∷ end 20_5 1 false [] letters.T letters.K
-    ∷ end 19_00881189173929 14 false (saturationLine ∷ []) letters.C letters.S
+    ∷ end 19_00881189173929 14 false (saturation_line ∷ []) letters.C letters.S
     ∷ []
 
 -- the letter k units of 2^-48 MPa above the end

@@ -10,7 +10,7 @@ use Rattle.common.specs.Decimal.{plus, minus, scaled}
 use Rattle.rounding.specs.Fraction.{Fraction}
 use Rattle.r4.specs.Saturation as saturation-f64
 use Rattle.border.specs.Border as border-f64
-use Rattle.boundaries.specs.Boundary.{Term, term, inLn, row, row_at, table}
+use Rattle.boundaries.specs.Boundary.{Term, term, in_ln, row, row_at, table}
 use Rattle.exact_lines.specs.Line.{Row, exact3ab, exact3op, exact3wx, printed}
 use Rattle.exact_lines.specs.Saturation as saturation
 use Rattle.exact_lines.specs.Border as border
@@ -22,15 +22,15 @@ abbrev pub rounded_term : Row → Term
 rounded_term r = term r.power (rounded (printed r))
 
 -- S05rev, equation 2
-pub pinned_3ab : row_at 0 ≡ row inLn (map rounded_term exact3ab)
+pub pinned_3ab : row_at 0 ≡ row in_ln (map rounded_term exact3ab)
 unfolding row_at table exact3ab plus minus scaled
 pinned_3ab = refl
 
-pub pinned_3op : row_at 6 ≡ row inLn (map rounded_term exact3op)
+pub pinned_3op : row_at 6 ≡ row in_ln (map rounded_term exact3op)
 unfolding row_at table exact3op plus minus scaled
 pinned_3op = refl
 
-pub pinned_3wx : row_at 10 ≡ row inLn (map rounded_term exact3wx)
+pub pinned_3wx : row_at 10 ≡ row in_ln (map rounded_term exact3wx)
 unfolding row_at table exact3wx plus minus scaled
 pinned_3wx = refl
 

@@ -20,7 +20,7 @@ use Rattle.exact_lines.specs.Logarithm.{ln, nested}
 use Rattle.exact_lines.specs.Line.{logarithmic, exact3ab, exact3op, exact3wx}
 use Rattle.exact_lines.specs.Saturation.{saturation, limit}
 use Rattle.exact_lines.specs.Border.{border}
-use Rattle.exact_lines.specs.Letter.{in_p, line3ab, line3op, line3wx, saturationLine, line_at, exact_band, exact_letter}
+use Rattle.exact_lines.specs.Letter.{in_p, line3ab, line3op, line3wx, saturation_line, line_at, exact_band, exact_letter}
 
 -- ---- the lines
 pub record Value : Type 0 where
@@ -55,9 +55,9 @@ values =
     ∷ prints (line_at (in_p rx) (22 * Q) 0) 648_2622754 7
     ∷ prints (line_at (in_p uv) (22_3 * Q / 10) 0) 647_7996121 7
     ∷ prints (line_at line3wx (22_3 * Q / 10) 30) 648_2049480 7
-    ∷ prints (line_at saturationLine (Q / 10) 60) 372_755919 6
-    ∷ prints (line_at saturationLine Q 60) 453_035632 6
-    ∷ prints (line_at saturationLine (10 * Q) 60) 584_149488 6
+    ∷ prints (line_at saturation_line (Q / 10) 60) 372_755919 6
+    ∷ prints (line_at saturation_line Q 60) 453_035632 6
+    ∷ prints (line_at saturation_line (10 * Q) 60) 584_149488 6
     ∷ prints (border 60 (16_5291643 * Q / 10 ^ 7)) 623_150000 6
     ∷ []
 

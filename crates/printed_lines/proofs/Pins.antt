@@ -6,14 +6,14 @@ use mathlib.Core.List.{List, [], ◌∷◌}
 use lib.Ieee.{Float}
 use Rattle.common.specs.Decimal.{plus, minus, scaled}
 use Rattle.common.proofs.Pin.{mix, shifted, mix_float, pin_from}
-use Rattle.printed_lines.specs.Boundaries.{Term, term, Argument, in_p, inLn, Row, row, table}
+use Rattle.printed_lines.specs.Boundaries.{Term, term, Argument, in_p, in_ln, Row, row, table}
 
 abbrev mix_term : ℕ → Term → ℕ
 mix_term h (term i n) = mix_float (mix h (shifted i)) n
 
 abbrev numbered : Argument → ℕ
 numbered in_p = 1
-numbered inLn = 2
+numbered in_ln = 2
 
 -- what the row's sum is in, and its terms
 abbrev mix_row : ℕ → Row → ℕ

@@ -9,7 +9,7 @@ pub data Term : Type 0 where
 
 -- what a sum is in: p (equation 1) or ln p (equation 2)
 pub data Argument : Type 0 where
-  in_p inLn : Argument
+  in_p in_ln : Argument
 
 -- a boundary's row: what its sum is in, and its terms
 pub data Row : Type 0 where
@@ -19,7 +19,7 @@ pub data Row : Type 0 where
 unfoldable pub table : List Row
 unfolding plus minus
 table =
-    row inLn  -- 3ab
+    row in_ln  -- 3ab
     (term (pos 0) (plus 15 0_154793642129415 (pos 4))
     ∷ term (pos 1) (minus 15 0_187661219490113 (pos 3))
     ∷ term (pos 2) (plus 15 0_213144632222113 (pos 2))
@@ -59,7 +59,7 @@ table =
     ∷ term (pos 2) (minus 15 0_158365725441648 (pos 0))
     ∷ term (pos 3) (plus 15 0_192871054508108 (negative 2))
     ∷ [])
-    ∷ row inLn  -- 3op
+    ∷ row in_ln  -- 3op
     (term (pos 0) (plus 15 0_969461372400213 (pos 3))
     ∷ term (pos 1) (minus 15 0_332500170441278 (pos 3))
     ∷ term (pos 2) (plus 15 0_642859598466067 (pos 2))
@@ -84,7 +84,7 @@ table =
     ∷ term (pos 2) (minus 15 0_222814134903755 (pos 0))
     ∷ term (pos 3) (plus 15 0_286791682263697 (negative 2))
     ∷ [])
-    ∷ row inLn  -- 3wx
+    ∷ row in_ln  -- 3wx
     (term (pos 0) (plus 15 0_728052609145380 (pos 1))
     ∷ term (pos 1) (plus 15 0_973505869861952 (pos 2))
     ∷ term (pos 2) (plus 15 0_147370491183191 (pos 2))
