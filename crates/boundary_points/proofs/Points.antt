@@ -108,7 +108,82 @@ pub points_hold : map got points ≡ map wanted points
 unfolding got wanted points letter_rule region3_box beside_border B23_p2T letter_at limit p_saturation T_saturation ab_rule cdef_rule chijk_rule ct_rule boundary_rule
     walk_rule row_at table straight3ef total power_rule root_rule nearest_root whole_root logarithm_rule ln2 exponential_rule in_units decimal whole plus minus scaled
     round neg add sub sum mul div of_int le lt eq
-points_hold = held points
-    (refl, (refl, (refl, (refl, (refl, (refl, (refl, (refl, (ef_holds,
-    (refl, (refl, (refl, (refl, (refl, (refl, (refl, (refl, (refl, (refl, (refl, (refl, (refl, (refl, (refl, (refl, (refl,
-    tt))))))))))))))))))))))))))
+points_hold = held points (
+  refl,
+  (
+    refl,
+    (
+      refl,
+      (
+        refl,
+        (
+          refl,
+          (
+            refl,
+            (
+              refl,
+              (
+                refl,
+                (
+                  ef_holds,
+                  (
+                    refl,
+                    (
+                      refl,
+                      (
+                        refl,
+                        (
+                          refl,
+                          (
+                            refl,
+                            (
+                              refl,
+                              (
+                                refl,
+                                (
+                                  refl,
+                                  (
+                                    refl,
+                                    (
+                                      refl,
+                                      (
+                                        refl,
+                                        (
+                                          refl,
+                                          (
+                                            refl,
+                                            (
+                                              refl,
+                                              (
+                                                refl,
+                                                (
+                                                  refl,
+                                                  (
+                                                    refl,
+                                                    tt,
+                                                  ),
+                                                ),
+                                              ),
+                                            ),
+                                          ),
+                                        ),
+                                      ),
+                                    ),
+                                  ),
+                                ),
+                              ),
+                            ),
+                          ),
+                        ),
+                      ),
+                    ),
+                  ),
+                ),
+              ),
+            ),
+          ),
+        ),
+      ),
+    ),
+  ),
+)
