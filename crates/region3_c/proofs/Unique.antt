@@ -51,7 +51,7 @@ pub record Number (post : Out 1 own.r3_root.Kinds.ps own.r3_root.Kinds.r) (rule 
   pub says : Says 1 own.r3_root.Kinds.ps own.r3_root.Kinds.r post (λ κs a x e. Exported (rule a.0) x e.1.0.now)
   pub one : OneBehind 1 own.r3_root.Kinds.ps own.r3_root.Kinds.r post Float (λ κs d. d.1.0.now)
 
-number : {post : Out 1 own.r3_root.Kinds.ps own.r3_root.Kinds.r} {rule : Float → Outcome Float} → Says 1 own.r3_root.Kinds.ps own.r3_root.Kinds.r post (λ κs a x e. Exported (rule a.0) x e.1.0.now) → Number post rule
+pub number : {post : Out 1 own.r3_root.Kinds.ps own.r3_root.Kinds.r} {rule : Float → Outcome Float} → Says 1 own.r3_root.Kinds.ps own.r3_root.Kinds.r post (λ κs a x e. Exported (rule a.0) x e.1.0.now) → Number post rule
 number s = record { says = s; one = λ κs a d e x y p q. both (s κs a d x p) (s κs a e y q) }
 
 pub numbers : Number own.r3_root.Reads.Post root_rule × Number own.r3_logarithm.Reads.Post logarithm_rule × Number own.r3_exponential.Reads.Post exponential_rule
@@ -65,7 +65,7 @@ pub record Worked (post : Out 1 own.r3_td.Kinds.ps own.r3_td.Kinds.r) (rule : Fl
   pub says : Says 1 own.r3_td.Kinds.ps own.r3_td.Kinds.r post (λ κs a x e. ExportedRecord (report (rule a.0 a.1.0)) x e.1.1.0.now)
   pub one : OneBehind 1 own.r3_td.Kinds.ps own.r3_td.Kinds.r post (List Float) (λ κs d. d.1.1.0.now)
 
-worked : {post : Out 1 own.r3_td.Kinds.ps own.r3_td.Kinds.r} {rule : Float → Float → Outcome Record} → Says 1 own.r3_td.Kinds.ps own.r3_td.Kinds.r post (λ κs a x e. ExportedRecord (report (rule a.0 a.1.0)) x e.1.1.0.now) → Worked post rule
+pub worked : {post : Out 1 own.r3_td.Kinds.ps own.r3_td.Kinds.r} {rule : Float → Float → Outcome Record} → Says 1 own.r3_td.Kinds.ps own.r3_td.Kinds.r post (λ κs a x e. ExportedRecord (report (rule a.0 a.1.0)) x e.1.1.0.now) → Worked post rule
 worked s = record { says = s; one = λ κs a d e x y p q. both (s κs a d x p) (s κs a e y q) }
 
 pub records : Worked own.r3_td.Reads.Post record_rule × Worked own.r3_pt.Reads.Post pT_rule × Worked own.r3_ph.Reads.Post ph_rule × Worked own.r3_ps.Reads.Post ps_rule × Worked own.r3_hs.Reads.Post hs_rule
@@ -77,7 +77,7 @@ pub record Found (post : Out 2 own.r3_pv2t.Kinds.ps own.r3_pv2t.Kinds.r) (rule :
   pub says : Says 2 own.r3_pv2t.Kinds.ps own.r3_pv2t.Kinds.r post (λ κs a x e. ExportedFound (rule a.0 a.1.0) x e.1.1.0.now e.1.1.1.0.now)
   pub one : OneBehind 2 own.r3_pv2t.Kinds.ps own.r3_pv2t.Kinds.r post (Float × ℕ) (λ κs d. (d.1.1.0.now, d.1.1.1.0.now))
 
-found : {post : Out 2 own.r3_pv2t.Kinds.ps own.r3_pv2t.Kinds.r} {rule : Float → Float → Outcome Proposal} → Says 2 own.r3_pv2t.Kinds.ps own.r3_pv2t.Kinds.r post (λ κs a x e. ExportedFound (rule a.0 a.1.0) x e.1.1.0.now e.1.1.1.0.now) → Found post rule
+pub found : {post : Out 2 own.r3_pv2t.Kinds.ps own.r3_pv2t.Kinds.r} {rule : Float → Float → Outcome Proposal} → Says 2 own.r3_pv2t.Kinds.ps own.r3_pv2t.Kinds.r post (λ κs a x e. ExportedFound (rule a.0 a.1.0) x e.1.1.0.now e.1.1.1.0.now) → Found post rule
 found s = record { says = s; one = λ κs a d e x y p q. both_told (s κs a d x p) (s κs a e y q) }
 
 pub places : Found own.r3_pv2t.Reads.Post pv2T_reg3_rule × Found own.r3_th2d.Reads.Post Th2d_reg3_rule × Found own.r3_ts2d.Reads.Post Ts2d_reg3_rule
@@ -89,7 +89,7 @@ pub record There (post : Out 2 own.r3_pv.Kinds.ps own.r3_pv.Kinds.r) (rule : Flo
   pub says : Says 2 own.r3_pv.Kinds.ps own.r3_pv.Kinds.r post (λ κs a x e. ExportedSearched (report_searched (rule a.0 a.1.0)) x e.1.1.0.now e.1.1.1.0.now)
   pub one : OneBehind 2 own.r3_pv.Kinds.ps own.r3_pv.Kinds.r post (List Float × ℕ) (λ κs d. (d.1.1.0.now, d.1.1.1.0.now))
 
-there : {post : Out 2 own.r3_pv.Kinds.ps own.r3_pv.Kinds.r} {rule : Float → Float → Outcome Searched} → Says 2 own.r3_pv.Kinds.ps own.r3_pv.Kinds.r post (λ κs a x e. ExportedSearched (report_searched (rule a.0 a.1.0)) x e.1.1.0.now e.1.1.1.0.now) → There post rule
+pub there : {post : Out 2 own.r3_pv.Kinds.ps own.r3_pv.Kinds.r} {rule : Float → Float → Outcome Searched} → Says 2 own.r3_pv.Kinds.ps own.r3_pv.Kinds.r post (λ κs a x e. ExportedSearched (report_searched (rule a.0 a.1.0)) x e.1.1.0.now e.1.1.1.0.now) → There post rule
 there s = record { says = s; one = λ κs a d e x y p q. both_told (s κs a d x p) (s κs a e y q) }
 
 pub records_there : There own.r3_pv.Reads.Post pv_rule × There own.r3_th.Reads.Post Th_rule × There own.r3_ts.Reads.Post Ts_rule

@@ -1,7 +1,0 @@
--- `region3_c::r3_logarithm` meets its contract: the rule's answer, exported. Assumes nothing.
-use borrow.Author.Rules.{rules}
-use Rattle.region3_c.proofs.r3_logarithm as own
-
-pub r3_logarithm_spec : {M : Type 1} → own.Statement.statement M
-r3_logarithm_spec =
-    own.Tie.close (own.Tie.spec (λ c κs. search rules) (λ c κs. search rules) (λ c. rw c.before.before.logarithm.ensures at c.exported.ensures))

@@ -1,7 +1,0 @@
--- `region3_c::r3_root` meets its contract: the rule's answer, exported. Assumes nothing.
-use borrow.Author.Rules.{rules}
-use Rattle.region3_c.proofs.r3_root as own
-
-pub r3_root_spec : {M : Type 1} → own.Statement.statement M
-r3_root_spec =
-    own.Tie.close (own.Tie.spec (λ c κs. search rules) (λ c κs. search rules) (λ c. rw c.before.before.root.ensures at c.exported.ensures))
