@@ -1,10 +1,10 @@
 -- The column run beside the record and the letter choice.
 use Rattle.record.specs.Record.{byte_of}
 use Rattle.common.specs.Formula.{◌⊘◌}
-use mathlib.Core.Path.{◌≡◌, refl, sym, ap, ◌∙◌}
+use mathlib.Core.Path.{◌≡◌, sym, ap, ◌∙◌}
 use mathlib.Core.Bool.{Bool, true, false, cond}
 use lib.Ieee.{Float}
-use Rattle.common.specs.Outcome.{Outcome, value, refused, then, check}
+use Rattle.common.specs.Outcome.{Outcome, value, then, check}
 use Rattle.common.specs.Decimal.{whole}
 use Rattle.common.proofs.Calls.{went_on}
 use Rattle.common.specs.Constant.{dc_water}
