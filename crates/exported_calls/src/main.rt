@@ -1,6 +1,6 @@
-// Calls the exported functions of region3_c themselves: rows of 24 bytes from standard input as `answers` has them, and for each on standard output
-// the 88 bytes of what the call wrote. The entry's number says which function is meant; 31 stands for the column run on columns of given lengths.
-// What a call is to write is found full of a number that no call answers.
+// Calls what the exported functions call, region3_c's of the same names: rows of 24 bytes from standard input as `answers` has them, and for each on
+// standard output the 88 bytes of what the call wrote. The entry's number says which function is meant; 31 stands for the column run on columns of given
+// lengths. What a call is to write is found full of a number that no call answers.
 #![tactic(auto)]
 
 ghost use Rattle.std.specs.Prelude.{◌≤◌};
