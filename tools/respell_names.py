@@ -36,11 +36,20 @@ CHOSEN = {
     "in-range": "in_range_lem",
     "mark-of": "mark_of_lem",
     "is-zero": "is_zero_lem",
-    "sum-of": "sum_of_lem",
+    "sum-of": "sum_of",
+    "near-lines": "near_lines_by",
+    "near-letter": "near_letter_by",
+    # constructors
+    "inLn": "in_ln",
+    "saturationLine": "saturation_line",
+    "cq-rk": "cq_rk",
     "float-in": "float_in_lem",
     "of-fields": "of_fields_lem",
     "two_fields": "two_fields_lem",
 }
+
+# A constructor of two crates that has the name of a lemma elsewhere.
+IN_CRATE = {("exact_lines", "in-p"): "in_p", ("exact", "in-p"): "in_p"}
 
 
 def antt_files(root):
@@ -118,6 +127,7 @@ def renames(root):
                 new = new.lower()
         if new != name:
             table[name] = new
+    table.update((name, new) for name, new in CHOSEN.items() if name in ("inLn", "saturationLine", "cq-rk"))
     # A definition and a lemma that would now have one name: the lemma is the one that was written with dashes.
     taken = defaultdict(list)
     for old, new in table.items():
@@ -125,7 +135,7 @@ def renames(root):
     for new, olds in taken.items():
         if len(olds) > 1:
             for old in olds:
-                if "-" in old and old != old.upper():
+                if "-" in old and old != old.upper() and old not in CHOSEN:
                     table[old] = new + "_lem"
     return table
 
@@ -188,7 +198,9 @@ def main():
         with open(path, encoding="utf-8") as f:
             text = f.read()
         kept = brought(text, crates) if path.endswith(".antt") else set()
-        new = respelled(text, {k: v for k, v in table.items() if k not in kept}, path.endswith("Proof.antt"))
+        crate = os.path.relpath(path, root).split(os.sep)[1] if os.sep in os.path.relpath(path, root) else ""
+        here = table | {name: new for (c, name), new in IN_CRATE.items() if c == crate}
+        new = respelled(text, {k: v for k, v in here.items() if k not in kept}, path.endswith("Proof.antt"))
         if path.endswith(".md"):
             # of a page only what stands between backticks
             new = re.sub(r"`[^`\n]*`", lambda m: respelled(m[0], {k: v for k, v in table.items() if "-" in k or re.search("[a-z][A-Z]", k)}, False), text)
