@@ -209,7 +209,7 @@ def own(crate, name, file, texts):
 
 def passed_over(text):
     """Why an error says nothing of the change: nothing where it does."""
-    if re.search(r"was not admitted|is not proved, so", text):
+    if re.search(r"was not admitted|which was rejected, (?:was|were) not checked|is not proved, so", text):
         return "waits on another"
     # a goal, a place or a lemma that the proof names is gone: the needs are more or fewer than it answers, or stand in another order
     if re.search(r"that can be named from here|has no field `|is not in scope|has no `[^`]*`|is no name|expected type `[^`]*Need-[^`]*`, but this has type `[^ `]*Need-", text):
