@@ -27,8 +27,9 @@ use Rattle.region3_c.proofs.Unique.{Says, OneBehind, OneVersion, Number, number,
 use Rattle.region3_c.proofs.Unique as low
 use Rattle.region3_c_exports.proofs as own
 
-pub numbers : Number own.r3_root.Reads.Post root_rule × Number own.r3_logarithm.Reads.Post logarithm_rule × Number own.r3_exponential.Reads.Post exponential_rule
-    × Number own.r3_p_saturation.Reads.Post p_saturation_rule × Number own.r3_t_saturation.Reads.Post T_saturation_rule × Number own.r3_p_border.Reads.Post B23_T2p_rule
+pub numbers : Number own.r3_root.Reads.Post root_rule × Number own.r3_logarithm.Reads.Post logarithm_rule
+    × Number own.r3_exponential.Reads.Post exponential_rule × Number own.r3_p_saturation.Reads.Post p_saturation_rule
+    × Number own.r3_t_saturation.Reads.Post T_saturation_rule × Number own.r3_p_border.Reads.Post B23_T2p_rule
     × Number own.r3_t_border.Reads.Post B23_p2T_rule
 numbers = (
   number (λ κs a e x p. p),
@@ -63,7 +64,8 @@ pub cp_w_says : Says 3 own.r3_cp_w.Kinds.ps own.r3_cp_w.Kinds.r own.r3_cp_w.Read
     (λ κs a x e. Exported (cp_and_w_rule a.0 a.1.0).cp x e.1.1.0.now × Exported (cp_and_w_rule a.0 a.1.0).w e.1.1.1.1.0.now e.1.1.1.0.now)
 cp_w_says κs a e x p = p
 
-pub letter_says : Says 1 own.r3_letter.Kinds.ps own.r3_letter.Kinds.r own.r3_letter.Reads.Post (λ κs a x e. ExportedLetter (letter_rule a.0 a.1.0) x e.1.1.0.now)
+pub letter_says : Says 1 own.r3_letter.Kinds.ps own.r3_letter.Kinds.r own.r3_letter.Reads.Post
+    (λ κs a x e. ExportedLetter (letter_rule a.0 a.1.0) x e.1.1.0.now)
 letter_says κs a e x p = p
 
 pub columns_says : Says 5 own.r3_columns.Kinds.ps own.r3_columns.Kinds.r own.r3_columns.Reads.Post
@@ -95,7 +97,8 @@ pub letter_one : OneBehind 1 own.r3_letter.Kinds.ps own.r3_letter.Kinds.r own.r3
 letter_one = low.letter_one
 
 -- every byte of the three columns
-pub columns_one : OneBehind 5 own.r3_columns.Kinds.ps own.r3_columns.Kinds.r own.r3_columns.Reads.Post Lent (λ κs d. lent d.1.1.0.now d.1.1.1.0.now d.1.1.1.1.0.now)
+pub columns_one : OneBehind 5 own.r3_columns.Kinds.ps own.r3_columns.Kinds.r own.r3_columns.Reads.Post Lent
+    (λ κs d. lent d.1.1.0.now d.1.1.1.0.now d.1.1.1.1.0.now)
 columns_one = low.columns_one
 
 -- the pair's byte and every field of the record
