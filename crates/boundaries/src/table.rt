@@ -4,18 +4,18 @@ ghost use Rattle.boundaries.specs.Boundary.{row_at};
 ghost use Rattle.boundaries.specs.Raw.{row_of};
 
 // A term: the exponent I and the coefficient n.
-#[derive(Drop)]
+#[derive(Clone, Copy)]
 pub struct Term(pub i32, pub f64);
 
 // The fifth term, in a row that has one.
-#[derive(Drop)]
+#[derive(Clone, Copy)]
 pub enum Fifth {
     Absent,
     Present(Term),
 }
 
 // A row: whether its sum is in ln p (equation 2) or in p (equation 1), and its terms.
-#[derive(Drop)]
+#[derive(Clone, Copy)]
 pub struct Row {
     pub ln: bool,
     pub t1: Term,

@@ -9,7 +9,7 @@ mod property;
 pub use property::{Td_thermal_reg3, Td2cp_w_reg3};
 
 // What is asked of cp and w together: each a value or a refusal of its own.
-#[derive(Drop)]
+#[derive(Clone, Copy)]
 pub struct CpW {
     pub cp: Answer,
     pub w: Answer,

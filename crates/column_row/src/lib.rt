@@ -15,7 +15,7 @@ use subregion::{ascii, of_byte};
 use volume::{StateAnswer, found_by};
 
 // The letter's byte, or 0 where there is none; the density; the refusal's number, or 0.
-#[derive(Drop)]
+#[derive(Clone, Copy)]
 pub struct Line {
     pub letter: u8,
     pub density: KgPerM3,

@@ -8,9 +8,9 @@ pub use run::columns;
 pub use units::columns_of;
 
 // A lent column of pressures in MPa.
-#[derive(Drop)]
+#[derive(Clone, Copy)]
 pub struct Pressures<'a>(pub &'a [f64]);
 
 // A lent column of temperatures in K.
-#[derive(Drop)]
+#[derive(Clone, Copy)]
 pub struct Temperatures<'a>(pub &'a [f64]);

@@ -8,7 +8,7 @@ use algo::Order;
 use powers::fill_powers;
 use rules::magnitude;
 
-#[derive(Drop)]
+#[derive(Clone, Copy)]
 struct Span {
     pub up: u32,
     pub down: u32,

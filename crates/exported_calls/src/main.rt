@@ -124,7 +124,7 @@ fn length_at(row: &[u8], at: usize) -> usize
 }
 
 // What a column run wrote: its refusal, and the five cells of each lent column as they are afterwards.
-#[derive(Drop)]
+#[derive(Clone, Copy)]
 struct Columns {
     refusal: u8,
     letters: [u8; 5],

@@ -148,7 +148,7 @@ pub fn phi_deltatau_reg3(delta: f64, tau: f64) -> f64
 }
 
 // φ and φ_τ by one sum.
-#[derive(Drop)]
+#[derive(Clone, Copy)]
 pub struct PhiTau {
     pub phi: f64,
     pub tau: f64,
@@ -165,7 +165,7 @@ pub fn polys_0_j_powi_reg3(delta: f64, tau: f64) -> PhiTau
 }
 
 // φ_δ and φ_τ by one sum.
-#[derive(Drop)]
+#[derive(Clone, Copy)]
 pub struct DeltaTau {
     pub delta: f64,
     pub tau: f64,

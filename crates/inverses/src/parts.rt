@@ -3,7 +3,7 @@ ghost use Rattle.std.specs.Prelude.{◌≡◌, ◌*◌, ◌^◌, ◌<◌, ◌≤
 ghost use Rattle.inverses.specs.Units.{in_units, positive};
 
 // A number above 0 by its 53 leading binary digits: x * 2^1126 is d * 2^e.
-#[derive(Drop)]
+#[derive(Clone, Copy)]
 pub struct Parts {
     pub d: u64,
     pub e: u64,

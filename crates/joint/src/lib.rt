@@ -14,14 +14,14 @@ use common::{least, over};
 use slopes::{factor, fallen};
 
 // Two sums of one item, in the order of the call's name.
-#[derive(Drop)]
+#[derive(Clone, Copy)]
 pub struct Pair {
     pub first: f64,
     pub second: f64,
 }
 
 // The sums differentiated by vi, twice by vi, by both and twice by vj, of one item.
-#[derive(Drop)]
+#[derive(Clone, Copy)]
 pub struct Four {
     pub i: f64,
     pub ii: f64,

@@ -14,14 +14,14 @@ use secant::{Curve, ProposalAnswer, rtsec_h, rtsec_p, rtsec_s};
 use volume_at::pT2v_at;
 
 // The densities between which a search on an isotherm starts.
-#[derive(Drop)]
+#[derive(Clone, Copy)]
 enum DensitiesAnswer {
     Value(KgPerM3, KgPerM3),
     Refused(Refusal),
 }
 
 // The T in K or d in kg/m3 that the check accepted, and how many trials the search made.
-#[derive(Drop)]
+#[derive(Clone, Copy)]
 pub enum FoundAnswer {
     Value(f64, u32),
     Refused(Refusal),

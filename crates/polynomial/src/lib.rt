@@ -10,13 +10,13 @@ pub use polynomial::{
     polys_i_ii_ij_jj_powi, polys_i_ii_powi, polys_i_ij_powi, polys_i_j_powi,
 };
 
-#[derive(Drop)]
+#[derive(Clone, Copy)]
 pub enum PairAnswer {
     Value(Pair),
     Refused(Refusal),
 }
 
-#[derive(Drop)]
+#[derive(Clone, Copy)]
 pub enum FourAnswer {
     Value(Four),
     Refused(Refusal),

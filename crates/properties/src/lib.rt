@@ -11,7 +11,7 @@ pub use region3_Td::{
 };
 
 // cp and w of one evaluation, each its number or a NaN.
-#[derive(Drop)]
+#[derive(Clone, Copy)]
 pub struct RawCpW {
     pub cp: f64,
     pub w: f64,

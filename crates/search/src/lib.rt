@@ -10,7 +10,7 @@ pub use calls::{Th_reg3, Th2d_reg3, Ts_reg3, Ts2d_reg3, pv_reg3, pv2T_reg3};
 pub use place::FoundAnswer;
 
 // The answer of a call for a record, with the trials: all +0.0, and none, where it is refused.
-#[derive(Drop)]
+#[derive(Clone, Copy)]
 pub struct SearchedRecord {
     pub verdict: Verdict,
     pub record: Record,

@@ -33,14 +33,14 @@ pub struct Secant {
     pub dx: f64,
 }
 
-#[derive(Drop)]
+#[derive(Clone, Copy)]
 enum SecantAnswer {
     Value(Secant),
     Lost,
 }
 
 // Whether the search goes on, and to where.
-#[derive(Drop)]
+#[derive(Clone, Copy)]
 enum Turn {
     Ended,
     Tried(Secant),
@@ -48,7 +48,7 @@ enum Turn {
 }
 
 // The place that the search proposes, in K or kg/m3, and how many trials it made.
-#[derive(Drop)]
+#[derive(Clone, Copy)]
 pub enum ProposalAnswer {
     Value(f64, u32),
     Refused(Refusal),
