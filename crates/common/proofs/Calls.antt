@@ -4,16 +4,15 @@ use mathlib.Core.Path.{◌≡◌, refl}
 use Prim.Native.Nat.{ℕ}
 use native.Mathlib.Omega.{arith}
 use Rattle.common.specs.Outcome.{Outcome, value, refused, then}
-use Rattle.common.specs.Answer.{paper_verdict, number_of}
+use Rattle.std.specs.Prelude.{Result, Ok, Err}
+use Rattle.common.specs.Answer.{paper, number_of}
 use Rattle.common.specs.declared.Refusal.{Refusal}
-use Rattle.common.specs.declared.Verdict.{Verdict}
-use Rattle.common.specs.declared.Verdict.TheVariants.{Accepted, Refused}
 
-module _ {v : Verdict} {o : Outcome Unit} (test : paper_verdict v ≡ o) where
-  pub going_on : {A : Type 0} (s : Outcome A) → v ≡ Accepted → then o (λ _. s) ≡ s
+module _ {v : Result Unit Refusal} {o : Outcome Unit} (test : paper v ≡ o) where
+  pub going_on : {A : Type 0} (s : Outcome A) → v ≡ Ok tt → then o (λ _. s) ≡ s
   going_on s h = rw (← test, h)
 
-  pub turned_away : {A : Type 0} (s : Outcome A) (k : Refusal) → v ≡ Refused k → then o (λ _. s) ≡ refused (number_of k)
+  pub turned_away : {A : Type 0} (s : Outcome A) (k : Refusal) → v ≡ Err k → then o (λ _. s) ≡ refused (number_of k)
   turned_away s k h = rw (← test, h)
 
 -- a refusal is no value

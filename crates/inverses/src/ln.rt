@@ -8,7 +8,7 @@ ghost use Rattle.inverses.specs.Log.{logarithm_rule};
 ghost use Rattle.inverses.specs.RawLog.{raw_ln};
 
 use crate::parts::unpack;
-use common::{Answer, Refusal, is_finite, or_nan, settle};
+use common::{Refusal, is_finite, or_nan, settle};
 
 // ln (m * 2^e), the steps with no check.
 fn ln_steps(m: f64, e: f64) -> f64
@@ -41,23 +41,19 @@ fn exponent(k: u64) -> f64
     (k as i64 - 1074) as f64
 }
 
-pub fn logarithm(x: f64) -> Answer
+pub fn logarithm(x: f64) -> Result<f64, Refusal>
     ensures { paper result ≡ logarithm_rule x }
 {
-    if is_finite(x) {
-        if x == 0.0 {
-            Answer::Refused(Refusal::Step)
-        } else if x < 0.0 {
-            Answer::Refused(Refusal::Step)
-        } else {
-            let p = unpack(x);
-            let up: u64 = if p.d < 0x18_0000_0000_0000 { 0 } else { 1 };
-            let m = f64::from_bits(0x3fe0_0000_0000_0000 + p.d - up * 0x10_0000_0000_0000);
-            settle(ln_steps(m, exponent(p.e + up)))
-        }
-    } else {
-        Answer::Refused(Refusal::NotFinite)
+    if !is_finite(x) {
+        return Err(Refusal::NotFinite);
     }
+    if x <= 0.0 {
+        return Err(Refusal::Step);
+    }
+    let p = unpack(x);
+    let up: u64 = if p.d < 0x18_0000_0000_0000 { 0 } else { 1 };
+    let m = f64::from_bits(0x3fe0_0000_0000_0000 + p.d - up * 0x10_0000_0000_0000);
+    settle(ln_steps(m, exponent(p.e + up)))
 }
 
 // For the layers above, which test once: a NaN where the rule refuses.

@@ -7,7 +7,7 @@ ghost use Rattle.inverses.specs.Units.{in_units, positive};
 ghost use Rattle.inverses.specs.Root.{nearest_root, root_rule};
 
 use crate::parts::unpack;
-use common::{Answer, Refusal, is_finite, or_nan};
+use common::{Refusal, is_finite, or_nan};
 
 // The whole part of (r*r + t) / 2^52, with r = a * 2^27 + b.
 fn high(r: u64, t: u64) -> u64
@@ -96,20 +96,19 @@ fn positive_root(x: f64) -> f64
     f64::from_bits(k * 0x10_0000_0000_0000 + near_root(d))
 }
 
-pub fn root(x: f64) -> Answer
+pub fn root(x: f64) -> Result<f64, Refusal>
     ensures { paper result ≡ root_rule x }
 {
-    if is_finite(x) {
-        if x == 0.0 {
-            Answer::Value(x)
-        } else if x < 0.0 {
-            Answer::Refused(Refusal::Step)
-        } else {
-            Answer::Value(positive_root(x))
-        }
-    } else {
-        Answer::Refused(Refusal::NotFinite)
+    if !is_finite(x) {
+        return Err(Refusal::NotFinite);
     }
+    if x == 0.0 {
+        return Ok(x);
+    }
+    if x < 0.0 {
+        return Err(Refusal::Step);
+    }
+    Ok(positive_root(x))
 }
 
 // For the layers above, which test once: a NaN where the rule refuses.

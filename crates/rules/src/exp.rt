@@ -7,7 +7,13 @@ ghost use Rattle.common.specs.Answer.{paper};
 ghost use Rattle.rules.specs.Exp.{whole_size, with_sign, two_to, exponential_rule};
 ghost use Rattle.rules.specs.RawExp.{at_most1010, raw_exp};
 
-use common::{Answer, Verdict, check_only, or_nan, settle};
+use common::{Interval, Refusal, check_only, or_nan, settle};
+
+// The x that the rule takes.
+const TAKEN: Interval = Interval {
+    from: -700.0,
+    to: 700.0,
+};
 
 // The whole number nearest to the size of q, ties to even.
 fn nearest_whole(q: f64) -> u64
@@ -78,18 +84,14 @@ fn exp_steps(x: f64, k: f64, p: f64) -> f64
     s1 * p
 }
 
-pub fn exponential(x: f64) -> Answer
+pub fn exponential(x: f64) -> Result<f64, Refusal>
     ensures { paper result ≡ exponential_rule x }
 {
-    match check_only(x, -700.0, 700.0) {
-        Verdict::Accepted => {
-            let q = x / 0.6931471805599453;
-            let n = nearest_whole(q);
-            let below = q < 0.0;
-            settle(exp_steps(x, signed_number(below, n), two_to(below, n)))
-        }
-        Verdict::Refused(k) => Answer::Refused(k),
-    }
+    check_only(x, TAKEN)?;
+    let q = x / 0.6931471805599453;
+    let n = nearest_whole(q);
+    let below = q < 0.0;
+    settle(exp_steps(x, signed_number(below, n), two_to(below, n)))
 }
 
 // For the layers above, which test once: a NaN where the rule refuses.

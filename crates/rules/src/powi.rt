@@ -6,7 +6,7 @@ ghost use Rattle.sizes.specs.Lost.{looked};
 ghost use Rattle.rules.specs.Power.{lowest, power_rule};
 ghost use Rattle.rules.specs.RawPower.{over_bits, raw_power, looked_power};
 
-use common::{Answer, Refusal, is_finite, or_nan, settle};
+use common::{Refusal, is_finite, or_nan, settle};
 use sizes::{look, usual};
 
 pub fn magnitude(n: i32) -> u32
@@ -60,22 +60,23 @@ fn looked_power(a: f64, n: i32) -> f64
     }
 }
 
-pub fn power(a: f64, n: i32) -> Answer
+pub fn power(a: f64, n: i32) -> Result<f64, Refusal>
     ensures { paper result ≡ power_rule a n }
 {
-    if magnitude(n) <= 64 {
-        if usual(a) {
-            return settle(bare_power(a, n));
-        }
-        if is_finite(a) {
-            return settle(looked_power(a, n));
-        }
-        return Answer::Refused(Refusal::NotFinite);
+    if n.unsigned_abs() > 64 {
+        return Err(if is_finite(a) {
+            Refusal::Second
+        } else {
+            Refusal::NotFinite
+        });
     }
-    if is_finite(a) {
-        return Answer::Refused(Refusal::Second);
+    if usual(a) {
+        return settle(bare_power(a, n));
     }
-    Answer::Refused(Refusal::NotFinite)
+    if !is_finite(a) {
+        return Err(Refusal::NotFinite);
+    }
+    settle(looked_power(a, n))
 }
 
 // For the layers above: the power, or a NaN where it is refused.
