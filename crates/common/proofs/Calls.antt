@@ -1,12 +1,21 @@
 -- A call whose arguments were tested goes on with its steps, or answers the test's refusal; and a call that answers a value went through every step.
 -- Assumes nothing.
-use mathlib.Core.Path.{◌≡◌, refl}
+use mathlib.Core.Path.{◌≡◌, refl, sym}
 use Prim.Native.Nat.{ℕ}
 use native.Mathlib.Omega.{arith}
 use Rattle.common.specs.Outcome.{Outcome, value, refused, then}
-use Rattle.std.specs.Prelude.{Result, Ok, Err}
+use Rattle.std.specs.Prelude.{Result, Ok, Err, IsErrAnd}
+use Rattle.std.proofs.lemmas.Result.{err_from_is_err_and}
 use Rattle.common.specs.Answer.{paper, number_of}
 use Rattle.common.specs.declared.Refusal.{Refusal}
+
+-- a call whose first step was `s()?`: it goes on from the step's value, or passes its refusal on
+module _ {A B : Type 0} {o : Outcome A} where
+  pub went_in : {x : A} (f : A → Outcome B) → value x ≡ o → then o f ≡ f x
+  went_in f e = rw (sym e)
+
+  pub passed_on : {k : Refusal} (f : A → Outcome B) (r : Result B Refusal) → IsErrAnd r (λ e. e ≡ k) → refused (number_of k) ≡ o → paper r ≡ then o f
+  passed_on f r h e = let p = err_from_is_err_and r h in rw (p.1, p.2) (rw (sym e))
 
 module _ {v : Result Unit Refusal} {o : Outcome Unit} (test : paper v ≡ o) where
   pub going_on : {A : Type 0} (s : Outcome A) → v ≡ Ok tt → then o (λ _. s) ≡ s
