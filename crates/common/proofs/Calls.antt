@@ -14,8 +14,8 @@ module _ {A B : Type 0} {o : Outcome A} where
   pub went_in : {x : A} (f : A → Outcome B) → value x ≡ o → then o f ≡ f x
   went_in f e = rw (sym e)
 
-  pub passed_on : {k : Refusal} (f : A → Outcome B) (r : Result B Refusal) → IsErrAnd r (λ e. e ≡ k) → refused (number_of k) ≡ o → paper r ≡ then o f
-  passed_on f r h e = let p = err_from_is_err_and r h in rw (p.1, p.2) (rw (sym e))
+  pub passed_on : (f : A → Outcome B) (r : Result B Refusal) (k : Refusal) → IsErrAnd r (λ e. e ≡ k) → refused (number_of k) ≡ o → paper r ≡ then o f
+  passed_on f r k h e = let p = err_from_is_err_and r h in rw (p.1, p.2) (rw (sym e))
 
 module _ {v : Result Unit Refusal} {o : Outcome Unit} (test : paper v ≡ o) where
   pub going_on : {A : Type 0} (s : Outcome A) → v ≡ Ok tt → then o (λ _. s) ≡ s

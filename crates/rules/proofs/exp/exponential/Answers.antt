@@ -58,4 +58,4 @@ returns c =
 
 pub returns-in_err-check_only : goal.returns-in_err-check_only
 unfolding exponential_rule of_int round neg of_bits
-returns-in_err-check_only c = passed_on _ _ c.from_residual.ensures.1 c.in_err-check_only.ensures
+returns-in_err-check_only c = passed_on _ _ _ c.from_residual.ensures.1 c.in_err-check_only.ensures
