@@ -25,6 +25,10 @@ float_of_one κs a e x y p q = p ∙ sym q
 pub float_at_one : One 1 own.float_at.Kinds.ps own.float_at.Kinds.r own.float_at.Reads.Post
 float_at_one κs a e x y p q = p ∙ sym q
 
+pub put_bytes_one : (κs : Lfts 2) (a : Dens κs own.put_bytes.Kinds.ps) (d e : AtExit (ended_of 2 own.put_bytes.Kinds.ps own.put_bytes.Kinds.r) κs) (x y : (res_t own.put_bytes.Kinds.r κs).Denot) →
+    own.put_bytes.Reads.Post κs a x d → own.put_bytes.Reads.Post κs a y e → d.0.now ≡ e.0.now
+put_bytes_one κs a d e x y p q = p ∙ sym q
+
 pub put_word_one : (κs : Lfts 1) (a : Dens κs own.put_word.Kinds.ps) (d e : AtExit (ended_of 1 own.put_word.Kinds.ps own.put_word.Kinds.r) κs) (x y : (res_t own.put_word.Kinds.r κs).Denot) →
     own.put_word.Reads.Post κs a x d → own.put_word.Reads.Post κs a y e → d.0.now ≡ e.0.now
 put_word_one κs a d e x y p q = p ∙ sym q
