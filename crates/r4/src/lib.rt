@@ -9,7 +9,9 @@ ghost use Rattle.common.specs.Answer.{paper};
 ghost use Rattle.r4.specs.Saturation.{p_saturation, p_saturation_rule, T_saturation, T_saturation_rule};
 ghost use Rattle.r4.specs.Quotients.{quotient_of, quotient_d};
 
-use common::{Kelvin, MPa, P_SATURATED, Refusal, T_SATURATED, check_only, finite_or_nan, or_nan, over, settle};
+use common::{
+    Kelvin, MPa, P_SATURATED, Refusal, T_SATURATED, check_only, finite_or_nan, or_nan, over, settle,
+};
 use inverses::raw_root;
 use rules::power;
 
@@ -52,6 +54,8 @@ fn p_steps(t: f64) -> f64
 }
 
 // Of equation 31 the quotient D, by β.
+// Kept: `quotient` and this differ in the root's sign and in the coefficients' places. One function of both would take eight coefficients and the sign, and
+// neither equation would stand as printed.
 fn quotient_d(beta: f64) -> f64
     ensures { (β : Outcome Float) → Raw β beta → Raw (quotient_d β) result }
 {
