@@ -2,21 +2,21 @@
 use mathlib.Core.Path.{sym, ap, ◌∙◌}
 use mathlib.Core.Bool.{Bool, cond}
 use Rattle.common.specs.Outcome.{Outcome, value, refused}
-use Rattle.common.proofs.Calls.{going_on, turned_away}
+use Rattle.common.proofs.Calls.{went_in, passed_on}
 use Rattle.border.specs.Border.{region3_box}
 use Rattle.border.proofs.check_region3.Goals as goal
 
 abbrev told : Bool → Outcome Unit
 told b = cond b (value tt) (refused 8)
 
-pub returns-then-beside : goal.returns-then-beside
+pub returns-then-not-beside : goal.returns-then-not-beside
 unfolding region3_box
-returns-then-beside c = ap told (sym c.if-beside.true) ∙ c.beside.ensures ∙ sym (going_on c.check_pT.ensures _ c.in-Accepted.is)
+returns-then-not-beside c = ap told (sym c.if-not-beside.true) ∙ c.beside.ensures ∙ sym (went_in _ c.in_ok-check_pT.ensures)
 
-pub returns-else-beside : goal.returns-else-beside
+pub returns : goal.returns
 unfolding region3_box
-returns-else-beside c = ap told (sym c.if-beside.false) ∙ c.beside.ensures ∙ sym (going_on c.check_pT.ensures _ c.in-Accepted.is)
+returns c = ap told (sym c.if-not-beside.false) ∙ c.beside.ensures ∙ sym (went_in _ c.in_ok-check_pT.ensures)
 
-pub returns-in-Refused : goal.returns-in-Refused
+pub returns-in_err-check_pT : goal.returns-in_err-check_pT
 unfolding region3_box
-returns-in-Refused c = sym (turned_away c.check_pT.ensures _ _ c.in-Refused.is)
+returns-in_err-check_pT c = passed_on _ _ _ c.from_residual.ensures.1 c.in_err-check_pT.ensures
