@@ -122,7 +122,7 @@ module _ (s : List ℕ) (c : Cursor) (n last : ℕ) (size : n ≡ size_at s c.at
   passes e = record { here = field_at s c.at n size header room; course = inl (course_here skipped e, refl) }
 
   pub takes : fate_of last (get_or s c.at 0) n ≡ taken → (m : Seen) (w : ℕ) → w ≡ word (take 8 (drop (c.at + 3) s))
-      → m ≡ added c.seen (get_or s c.at 0) w → Passed s c (record { at = c.at + 3 + n; seen = m })
+      → m ≡ added c.seen (record { tag = get_or s c.at 0; bits = w }) → Passed s c (record { at = c.at + 3 + n; seen = m })
   takes e m w h k =
       let z : n ≡ 8 = taken_size last (get_or s c.at 0) n e in
       record {
@@ -130,7 +130,7 @@ module _ (s : List ℕ) (c : Cursor) (n last : ℕ) (size : n ≡ size_at s c.at
         course =
             inr (
               course_here taken e,
-              k ∙ ap (added c.seen (get_or s c.at 0)) (h ∙ ap (λ (j : ℕ). word (take j (drop (c.at + 3) s))) (sym z)),
+              k ∙ ap (λ (v : ℕ). added c.seen (record { tag = get_or s c.at 0; bits = v })) (h ∙ ap (λ (j : ℕ). word (take j (drop (c.at + 3) s))) (sym z)),
             );
       }
 

@@ -9,9 +9,10 @@ use Rattle.common.specs.Outcome.{Outcome, value, refused}
 use Rattle.exchange_record.specs.declared.Asked.{Asked}
 use Rattle.exchange_record.specs.declared.Pair.{Pair}
 use Rattle.exchange_record.specs.declared.Cursor.{Cursor}
-use Rattle.exchange_record.specs.Grammar.{Field, said, Whole, AllWhole, spelt, encoded, word, known, pair_of, Forms, Cut, skipped, taken, fate_of, last_tag, RefusedAfter, cut, stop, skip, take, unpaired, Refused}
+use Rattle.exchange_record.specs.Grammar.{Field, said, Whole, AllWhole, spelt, encoded, word, known, pair_of, Forms, Cut, skipped, taken, fate_of, last_tag}
+use Rattle.exchange_record.specs.Grammar.{RefusedAfter, cut, stop, skip, take, unpaired, Refused}
 use Rattle.exchange_record.specs.Reading.{Means}
-use Rattle.exchange_record.specs.Walk.{last_of, added, seen_of, asked_by, finished, Passed, Stops}
+use Rattle.exchange_record.specs.Walk.{last_of, added, kept, seen_of, asked_by, finished, Passed, Stops}
 use Rattle.exchange_record.proofs.Pairs.{paired_or_not}
 use Rattle.exchange_record.proofs.Fields.{taken_size, taken_known, skipped_unknown}
 
@@ -91,7 +92,7 @@ last_seen (x ∷ []) = refl
 last_seen (y ∷ x ∷ []) = refl
 last_seen (z ∷ y ∷ x ∷ fs) = refl
 
-add_seen : (f : Field) (before : List Field) → added (seen_of before) f.tag (word f.body) ≡ seen_of (f ∷ before)
+add_seen : (f : Field) (before : List Field) → added (seen_of before) (kept f) ≡ seen_of (f ∷ before)
 add_seen f [] = refl
 add_seen f (x ∷ []) = refl
 add_seen f (y ∷ x ∷ []) = refl
@@ -128,14 +129,14 @@ module _ (s : List ℕ) (c : Cursor) (r : Reached s c) where
           }
 
       into : (fate_of (last_of c.seen) p.here.field.tag (said p.here.field) ≡ taken)
-          × (d.seen ≡ added c.seen p.here.field.tag (word p.here.field.body)) → Reached s d
+          × (d.seen ≡ added c.seen (kept p.here.field)) → Reached s d
       into h =
           record {
             before = p.here.field ∷ r.before;
             eight = (p.here.whole ∙ taken_size _ _ _ h.0, r.eight);
             within = p.here.within;
             seen =
-                h.1 ∙ ap (λ m. added m p.here.field.tag (word p.here.field.body)) r.seen ∙ add_seen p.here.field r.before;
+                h.1 ∙ ap (λ m. added m (kept p.here.field)) r.seen ∙ add_seen p.here.field r.before;
             rest =
                 λ o m.
                 r.rest o
