@@ -1,18 +1,11 @@
 // The choosers: a letter by t, from the numbers of the boundaries that t is held against, whatever these are.
 // Each is written from its last letter back: from_x is the letter of a t that lies beyond the letters before x.
-ghost use Rattle.std.specs.Prelude.{◌≡◌, ◌&&◌, cond};
+ghost use Rattle.std.specs.Prelude.{◌≡◌, cond};
 ghost use Rattle.std.specs.Float.Ieee.{le, lt};
 ghost use Rattle.choosers.specs.Choosers.{ab_by, cdef_by, chijk_by, clmnopjk_by, csrk_by, cst_by, ct_by, around, uvwx_by, uyzx_by, liquid_by, steam_by, saturated_by};
 
 use common::{Kelvin, MPa};
 use subregion::Letter;
-
-// Round the critical point: a letter, or the near-critical ones.
-#[derive(Clone, Copy)]
-pub enum Near {
-    Found(Letter),
-    Inside,
-}
 
 // l up to the boundary, which belongs to it, and `beyond` above.
 fn upto(b: f64, l: Letter, beyond: Letter, t: f64) -> Letter
@@ -103,37 +96,29 @@ pub fn by_ct(tsat: Kelvin, t: Kelvin) -> Letter
     upto(tsat.0, Letter::C, Letter::T, t.0)
 }
 
-// Above one boundary and up to the other.
-fn between(from: f64, to: f64, t: f64) -> bool
-    ensures { result ≡ (lt from t && le t to) }
+// Round the critical point, or none where the near-critical letters are chosen from.
+pub fn round_critical(
+    tcd: Kelvin,
+    tqu: Kelvin,
+    trx: Kelvin,
+    tjk: Kelvin,
+    t: Kelvin,
+) -> Option<Letter>
+    ensures { result ≡ around tcd.0 tqu.0 trx.0 tjk.0 t.0 Some None }
 {
-    t > from && t <= to
-}
-
-// Round the critical point, of bare numbers.
-fn round_by(tcd: f64, tqu: f64, trx: f64, tjk: f64, t: f64) -> Near
-    ensures { result ≡ around tcd tqu trx tjk t Near.Found Near.Inside }
-{
-    if t <= tcd {
-        return Near::Found(Letter::C);
+    if t.0 <= tcd.0 {
+        return Some(Letter::C);
     }
-    if t <= tqu {
-        return Near::Found(Letter::Q);
+    if t.0 <= tqu.0 {
+        return Some(Letter::Q);
     }
-    if between(trx, tjk, t) {
-        return Near::Found(Letter::R);
+    if t.0 > trx.0 && t.0 <= tjk.0 {
+        return Some(Letter::R);
     }
-    if t > tjk {
-        return Near::Found(Letter::K);
+    if t.0 > tjk.0 {
+        return Some(Letter::K);
     }
-    Near::Inside
-}
-
-// Round the critical point.
-pub fn round_critical(tcd: Kelvin, tqu: Kelvin, trx: Kelvin, tjk: Kelvin, t: Kelvin) -> Near
-    ensures { result ≡ around tcd.0 tqu.0 trx.0 tjk.0 t.0 Near.Found Near.Inside }
-{
-    round_by(tcd.0, tqu.0, trx.0, tjk.0, t.0)
+    None
 }
 
 // Above 22.11 MPa.
