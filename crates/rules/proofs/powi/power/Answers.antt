@@ -23,28 +23,26 @@ module _ (n : ℤ) (f : SFits w32 n) (m : ℕ) (e : m ≡ nat_abs (to_z w32 (of_
   many : 64 < m → leb (nat_abs n) 64 ≡ false
   many l = rw (ap nat_abs (sym (to_z-of_z w32 n f)) ∙ sym e) (lt-leb m 64 l)
 
-pub returns-then-is_finite : goal.returns-then-is_finite
-unfolding power_rule
-returns-then-is_finite c = rw (sym c.is_finite.ensures ∙ c.if-is_finite.true, many c.args.n c.ranges.n _ c.unsigned_abs.ensures.value c.if-unsigned_abs-gt64.true)
-
-pub returns-else-is_finite : goal.returns-else-is_finite
-unfolding power_rule
-returns-else-is_finite c = rw (sym c.is_finite.ensures ∙ c.if-is_finite.false)
-
 pub returns-then-usual : goal.returns-then-usual
 returns-then-usual c =
     let a = c.args in
     c.settle.ensures
     ∙ ap check (c.bare_power.ensures ∙ ap (raw_power a.a) (to_z-of_z w32 a.n c.ranges.n))
-    ∙ sym (power_usual a.a a.n (sym c.usual.ensures ∙ c.if-usual.true) (few a.n c.ranges.n _ c.unsigned_abs.ensures.value c.if-unsigned_abs-gt64.false))
+    ∙ sym (power_usual a.a a.n (sym c.usual.ensures ∙ c.if-usual.true) (few a.n c.ranges.n _ c.unsigned_abs-taken.ensures.value c.if-taken.true))
 
 pub returns-then-not-is_finite : goal.returns-then-not-is_finite
 unfolding power_rule
-returns-then-not-is_finite c = rw (sym c.is_finite-2.ensures ∙ c.if-not-is_finite.true)
+returns-then-not-is_finite c = rw (sym c.is_finite.ensures ∙ c.if-not-is_finite.true)
+
+pub returns-then-not-taken : goal.returns-then-not-taken
+unfolding power_rule
+returns-then-not-taken c =
+    rw (sym c.is_finite.ensures ∙ c.if-not-is_finite.false, many c.args.n c.ranges.n _ c.unsigned_abs-taken.ensures.value c.if-not-taken.true)
 
 pub returns : goal.returns
+unfolding looked_power
 returns c =
     let a = c.args in
     c.settle-2.ensures
-    ∙ ap check (c.looked_power.ensures ∙ ap (looked_power a.a) (to_z-of_z w32 a.n c.ranges.n))
-    ∙ sym (power_looked a.a a.n (sym c.is_finite-2.ensures ∙ c.if-not-is_finite.false) (few a.n c.ranges.n _ c.unsigned_abs.ensures.value c.if-unsigned_abs-gt64.false))
+    ∙ ap check (c.power_by_bits.ensures ∙ ap (looked_power a.a) (to_z-of_z w32 a.n c.ranges.n))
+    ∙ sym (power_looked a.a a.n (sym c.is_finite.ensures ∙ c.if-not-is_finite.false) (few a.n c.ranges.n _ c.unsigned_abs-taken.ensures.value c.if-not-taken.false))
