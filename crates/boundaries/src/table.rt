@@ -7,14 +7,7 @@ ghost use Rattle.boundaries.specs.Raw.{row_of};
 #[derive(Clone, Copy)]
 pub struct Term(pub i32, pub f64);
 
-// The fifth term, in a row that has one.
-#[derive(Clone, Copy)]
-pub enum Fifth {
-    Absent,
-    Present(Term),
-}
-
-// A row: whether its sum is in ln p (equation 2) or in p (equation 1), and its terms.
+// A row: whether its sum is in ln p (equation 2) or in p (equation 1), and its terms, of which some rows have no fifth.
 #[derive(Clone, Copy)]
 pub struct Row {
     pub ln: bool,
@@ -22,7 +15,7 @@ pub struct Row {
     pub t2: Term,
     pub t3: Term,
     pub t4: Term,
-    pub t5: Fifth,
+    pub t5: Option<Term>,
 }
 
 // The place of each boundary's row. It is a plain number, so that the compiler knows the row wherever one is asked for, and its constants go there; other
@@ -61,7 +54,7 @@ pub fn row_at(k: usize) -> Row
             t2: Term(1, -0.187661219490113e3),
             t3: Term(2, 0.213144632222113e2),
             t4: Term(-1, -0.191887498864292e4),
-            t5: Fifth::Present(Term(-2, 0.918419702359447e3)),
+            t5: Some(Term(-2, 0.918419702359447e3)),
         },
         // 3cd: equation 1; 649.3659208 K at 25 MPa
         CD => Row {
@@ -70,7 +63,7 @@ pub fn row_at(k: usize) -> Row
             t2: Term(1, 0.278233532206915e1),
             t3: Term(2, -0.127283549295878e-1),
             t4: Term(3, 0.159090746562729e-3),
-            t5: Fifth::Absent,
+            t5: None,
         },
         // 3gh: equation 1; 649.8873759 K at 23 MPa
         GH => Row {
@@ -79,7 +72,7 @@ pub fn row_at(k: usize) -> Row
             t2: Term(1, 0.428143584791546e4),
             t3: Term(2, -0.269029173140130e3),
             t4: Term(3, 0.751608051114157e1),
-            t5: Fifth::Present(Term(4, -0.787105249910383e-1)),
+            t5: Some(Term(4, -0.787105249910383e-1)),
         },
         // 3ij: equation 1; 651.5778091 K at 23 MPa
         IJ => Row {
@@ -88,7 +81,7 @@ pub fn row_at(k: usize) -> Row
             t2: Term(1, -0.616179320924617),
             t3: Term(2, 0.260763050899562),
             t4: Term(3, -0.587071076864459e-2),
-            t5: Fifth::Present(Term(4, 0.515308185433082e-4)),
+            t5: Some(Term(4, 0.515308185433082e-4)),
         },
         // 3jk: equation 1; 655.8338344 K at 23 MPa
         JK => Row {
@@ -97,7 +90,7 @@ pub fn row_at(k: usize) -> Row
             t2: Term(1, -0.770600270141675e1),
             t3: Term(2, 0.697072596851896),
             t4: Term(3, -0.157391839848015e-1),
-            t5: Fifth::Present(Term(4, 0.137897492684194e-3)),
+            t5: Some(Term(4, 0.137897492684194e-3)),
         },
         // 3mn: equation 1; 649.6054133 K at 22.8 MPa
         MN => Row {
@@ -106,7 +99,7 @@ pub fn row_at(k: usize) -> Row
             t2: Term(1, 0.761978122720128e1),
             t3: Term(2, -0.158365725441648),
             t4: Term(3, 0.192871054508108e-2),
-            t5: Fifth::Absent,
+            t5: None,
         },
         // 3op: equation 2; 650.0106943 K at 22.8 MPa
         OP => Row {
@@ -115,7 +108,7 @@ pub fn row_at(k: usize) -> Row
             t2: Term(1, -0.332500170441278e3),
             t3: Term(2, 0.642859598466067e2),
             t4: Term(-1, 0.773845935768222e3),
-            t5: Fifth::Present(Term(-2, -0.152313732937084e4)),
+            t5: Some(Term(-2, -0.152313732937084e4)),
         },
         // 3qu: equation 1; 645.6355027 K at 22 MPa
         QU => Row {
@@ -124,7 +117,7 @@ pub fn row_at(k: usize) -> Row
             t2: Term(1, 0.529062258221222e1),
             t3: Term(2, -0.102020639611016),
             t4: Term(3, 0.122240301070145e-2),
-            t5: Fifth::Absent,
+            t5: None,
         },
         // 3rx: equation 1; 648.2622754 K at 22 MPa
         RX => Row {
@@ -133,7 +126,7 @@ pub fn row_at(k: usize) -> Row
             t2: Term(1, -0.102961025163669e1),
             t3: Term(2, 0.243293362700452),
             t4: Term(3, -0.294905044740799e-2),
-            t5: Fifth::Absent,
+            t5: None,
         },
         // 3uv: equation 1; 647.7996121 K at 22.3 MPa
         UV => Row {
@@ -142,7 +135,7 @@ pub fn row_at(k: usize) -> Row
             t2: Term(1, 0.890579602135307e1),
             t3: Term(2, -0.222814134903755),
             t4: Term(3, 0.286791682263697e-2),
-            t5: Fifth::Absent,
+            t5: None,
         },
         // 3wx: equation 2; 648.2049480 K at 22.3 MPa
         _ => Row {
@@ -151,7 +144,7 @@ pub fn row_at(k: usize) -> Row
             t2: Term(1, 0.973505869861952e2),
             t3: Term(2, 0.147370491183191e2),
             t4: Term(-1, 0.329196213998375e3),
-            t5: Fifth::Present(Term(-2, 0.873371668682417e3)),
+            t5: Some(Term(-2, 0.873371668682417e3)),
         },
     }
 }

@@ -7,8 +7,8 @@ ghost use Rattle.boundaries.specs.Raw.{argument_of, term_of, row_of, raw_argumen
 ghost use Rattle.boundaries.specs.declared.Boundary.TheVariants.{Ef};
 
 use crate::Boundary;
-use crate::table::{AB, CD, Fifth, GH, IJ, JK, MN, OP, QU, RX, Row, Term, UV, WX, row_at};
-use common::{Answer, MPa, P_FROM, P_TO, Verdict, check_only, settle};
+use crate::table::{AB, CD, GH, IJ, JK, MN, OP, QU, RX, Row, Term, UV, WX, row_at};
+use common::{MPa, P_RANGE, Refusal, check_only, settle};
 use inverses::raw_logarithm;
 use rules::{bare_power, raw_power};
 use sizes::usual;
@@ -40,10 +40,9 @@ fn walk(row: Row, bare: bool, x: f64) -> f64
         + worked(bare, row.t2, x)
         + worked(bare, row.t3, x)
         + worked(bare, row.t4, x);
-    let fifth = row.t5;
-    match fifth {
-        Fifth::Absent => four,
-        Fifth::Present(t) => four + worked(bare, t, x),
+    match row.t5 {
+        None => four,
+        Some(t) => four + worked(bare, t, x),
     }
 }
 
@@ -111,11 +110,9 @@ pub fn bare_boundary(b: Boundary, p: MPa) -> f64
 }
 
 // The temperature at the boundary in K.
-pub fn T_atRegionBoundary(p: MPa, b: Boundary) -> Answer
+pub fn T_atRegionBoundary(p: MPa, b: Boundary) -> Result<f64, Refusal>
     ensures { paper result ≡ boundary_rule b p.0 }
 {
-    match check_only(p.0, P_FROM, P_TO) {
-        Verdict::Accepted => settle(raw_boundary(b, p)),
-        Verdict::Refused(k) => Answer::Refused(k),
-    }
+    check_only(p.0, P_RANGE)?;
+    settle(raw_boundary(b, p))
 }
