@@ -1,34 +1,10 @@
 // One field: what becomes of it, and the cursor past it.
 ghost use Rattle.std.specs.Prelude.{◌≡◌, ◌&&◌, ltb, leb, ◌<◌, length};
 ghost use Rattle.exchange_record.specs.Grammar.{fate_of};
-ghost use Rattle.exchange_record.specs.Walk.{paper_fate, last_of, added, Stepped};
+ghost use Rattle.exchange_record.specs.Walk.{paper_fate, Stepped};
 
 use crate::number::{two_at, word_at};
 use crate::{Cursor, Fate, Known, ReadRefusal, Seen};
-
-impl Seen {
-    // The last known tag, 0 where there was none.
-    fn last(self) -> u8
-        ensures { result ≡ last_of self }
-    {
-        match self {
-            Seen::Nothing => 0,
-            Seen::One(x) => x.tag,
-            Seen::Two(_, y) => y.tag,
-            Seen::More(z) => z,
-        }
-    }
-
-    fn with(self, f: Known) -> Seen
-        ensures { result ≡ added self f }
-    {
-        match self {
-            Seen::Nothing => Seen::One(f),
-            Seen::One(x) => Seen::Two(x, f),
-            Seen::Two(_, _) | Seen::More(_) => Seen::More(f.tag),
-        }
-    }
-}
 
 // The tags of p, T, d, h, s.
 fn known(tag: u8) -> bool

@@ -4,6 +4,7 @@
 
 ghost use Rattle.std.specs.Prelude.{◌≡◌};
 ghost use Rattle.exchange_record.specs.Reading.{read_number, pair_byte, pair_by, paper_named};
+ghost use Rattle.exchange_record.specs.Walk.{last_of, added};
 
 mod field;
 mod number;
@@ -90,6 +91,30 @@ pub enum Seen {
     One(Known),
     Two(Known, Known),
     More(u8),
+}
+
+impl Seen {
+    // The last known tag, 0 where there was none.
+    fn last(self) -> u8
+        ensures { result ≡ last_of self }
+    {
+        match self {
+            Seen::Nothing => 0,
+            Seen::One(x) => x.tag,
+            Seen::Two(_, y) => y.tag,
+            Seen::More(z) => z,
+        }
+    }
+
+    fn with(self, f: Known) -> Seen
+        ensures { result ≡ added self f }
+    {
+        match self {
+            Seen::Nothing => Seen::One(f),
+            Seen::One(x) => Seen::Two(x, f),
+            Seen::Two(_, _) | Seen::More(_) => Seen::More(f.tag),
+        }
+    }
 }
 
 // Where the reader stands: the first byte that was not looked at, and what was seen before it.
