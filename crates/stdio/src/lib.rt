@@ -8,7 +8,7 @@ ghost use Rattle.std.specs.Io.KnownBytes.{Appends, Consumes, IsAtEnd};
 use std::io::{Cursor, Error, IsTerminal, Read, Write};
 
 // Why no more bytes were read.
-#[derive(Clone, Copy)]
+#[derive(Clone, Copy, Debug, PartialEq, Eq)]
 pub enum Stop {
     Full,
     Ended,
@@ -16,7 +16,7 @@ pub enum Stop {
 }
 
 // What reading came to: how many bytes there are, and why no more.
-#[derive(Clone, Copy)]
+#[derive(Clone, Copy, Debug)]
 pub struct Reading {
     pub have: usize,
     pub stop: Stop,
@@ -37,8 +37,14 @@ pub fn read_until_full<R: Read>(
 {
     let mut have = 0;
     while have < bytes.len() {
-        let n = match input.read(&mut bytes[have..]) {
-            Ok(n) => n,
+        match input.read(&mut bytes[have..]) {
+            Ok(0) => {
+                return Reading {
+                    have,
+                    stop: Stop::Ended,
+                };
+            }
+            Ok(n) => have += n,
             Err(e) => {
                 fail(rt, what, e);
                 return Reading {
@@ -46,14 +52,7 @@ pub fn read_until_full<R: Read>(
                     stop: Stop::Failed,
                 };
             }
-        };
-        if n == 0 {
-            return Reading {
-                have,
-                stop: Stop::Ended,
-            };
         }
-        have += n;
     }
     Reading {
         have,
@@ -62,6 +61,7 @@ pub fn read_until_full<R: Read>(
 }
 
 // Writes the bytes and answers whether that went well. Says `what` and the reason where it did not.
+// Kept: a bool, for the reason is said here and a caller has only to stop.
 pub fn send<W: Write>(rt: HostRuntime, what: &[u8], to: &mut W, bytes: &[u8]) -> bool
     ensures sent { IsTrue result → Appends (W.contents to.old) (W.contents to.new) bytes.now }
 {
