@@ -2,21 +2,23 @@
 ghost use Rattle.std.specs.Prelude.{◌≡◌};
 ghost use Rattle.common.specs.Outcome.{check};
 ghost use Rattle.common.specs.Answer.{paper};
-ghost use Rattle.volume.specs.State.{paper_state, state_of, state_by, volume_from};
+ghost use Rattle.volume.specs.State.{state_of, state_by, volume_from};
 
-use crate::StateAnswer;
+use crate::State;
 use crate::region3_v_subregion_pT::{equation, volume_by};
-use common::{Answer, DC_WATER, Kelvin, KgPerM3, M3PerKg, MPa, settle};
+use common::{DC_WATER, Kelvin, KgPerM3, M3PerKg, MPa, Refusal, settle};
 use record::{Origin, density};
 
 // A volume with its density.
-fn found(o: Origin, v: M3PerKg) -> StateAnswer
-    ensures { paper_state result ≡ state_of o (check v.0) }
+fn found(origin: Origin, volume: M3PerKg) -> Result<State, Refusal>
+    ensures { paper result ≡ state_of origin (check volume.0) }
 {
-    match density(v) {
-        Answer::Value(d) => StateAnswer::Value(o, v, KgPerM3(d)),
-        Answer::Refused(k) => StateAnswer::Refused(k),
-    }
+    let d = density(volume)?;
+    Ok(State {
+        origin,
+        volume,
+        density: KgPerM3(d),
+    })
 }
 
 // The volume in m3/kg, raw. It stands apart, so that what asks for it is short enough to go where it is called; p and t are bare in here, where
@@ -31,14 +33,14 @@ fn raw_from(o: Origin, p: f64, t: f64) -> f64
 }
 
 // The volume with its density.
-pub fn found_by(o: Origin, p: MPa, t: Kelvin) -> StateAnswer
-    ensures { paper_state result ≡ state_by o p.0 t.0 }
+pub fn found_by(o: Origin, p: MPa, t: Kelvin) -> Result<State, Refusal>
+    ensures { paper result ≡ state_by o p.0 t.0 }
 {
     found(o, M3PerKg(raw_from(o, p.0, t.0)))
 }
 
 // The volume alone, whose density is not looked at.
-pub fn volume_from(o: Origin, p: MPa, t: Kelvin) -> Answer
+pub fn volume_from(o: Origin, p: MPa, t: Kelvin) -> Result<f64, Refusal>
     ensures { paper result ≡ volume_from o p.0 t.0 }
 {
     settle(raw_from(o, p.0, t.0))
