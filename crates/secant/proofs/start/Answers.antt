@@ -1,30 +1,17 @@
 -- `secant::start` meets its contract: each return by the tests that led there. Assumes nothing.
 use mathlib.Core.Path.{sym, ap, ◌∙◌}
-use Rattle.common.proofs.Laws.{check_kept, check_lost}
+use Rattle.common.proofs.Calls.{passed_on}
 use Rattle.secant.specs.Secant.{opened_by, start_of}
 use Rattle.secant.proofs.start.Goals as goal
 
-pub returns-then-is_finite-2 : goal.returns-then-is_finite-2
+pub returns-in_err-f1 : goal.returns-in_err-f1
 unfolding start_of
-returns-then-is_finite-2 c =
-    rw (
-      c.missing-f1.ensures.is,
-      check_kept c.missing-f1.result (sym c.is_finite.ensures ∙ c.if-is_finite.true),
-      c.missing-f2.ensures.is,
-      check_kept c.missing-f2.result (sym c.is_finite-then-is_finite.ensures ∙ c.if-is_finite-2.true),
-    )
-    (c.opened.ensures ∙ ap opened_by c.ordered.ensures)
+returns-in_err-f1 c = passed_on _ _ _ c.from_residual.ensures.1 c.in_err-f1.ensures
 
-pub returns-then-is_finite : goal.returns-then-is_finite
+pub returns-in_err-f2 : goal.returns-in_err-f2
 unfolding start_of
-returns-then-is_finite c =
-    rw (
-      c.missing-f1.ensures.is,
-      check_kept c.missing-f1.result (sym c.is_finite.ensures ∙ c.if-is_finite.true),
-      c.missing-f2.ensures.is,
-      check_lost c.missing-f2.result (sym c.is_finite-then-is_finite.ensures ∙ c.if-is_finite-2.false),
-    )
+returns-in_err-f2 c = rw (sym c.in_ok-f1.ensures) (passed_on _ _ _ c.from_residual-in_err-f2.ensures.1 c.in_err-f2.ensures)
 
 pub returns : goal.returns
 unfolding start_of
-returns c = rw (c.missing-f1.ensures.is, check_lost c.missing-f1.result (sym c.is_finite.ensures ∙ c.if-is_finite.false))
+returns c = rw (sym c.in_ok-f1.ensures, sym c.in_ok-f2.ensures) (c.opened.ensures ∙ ap opened_by c.ordered.ensures)
