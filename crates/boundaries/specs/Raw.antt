@@ -1,5 +1,5 @@
 -- Helps proofs only: a row of the code as a row of the table, and a boundary's number with no check. Assumes nothing: these are definitions.
-use Rattle.std.specs.Prelude.{Bool, true, false, List, [], ◌∷◌, Option, None, Some, ◌≡◌, leb, ℤ, nat_abs, Float}
+use Rattle.std.specs.Prelude.{ℕ, Bool, true, false, List, [], ◌∷◌, Option, None, Some, ◌≡◌, leb, ℤ, nat_abs, Float}
 use Rattle.std.specs.Float.{binary64}
 use Rattle.std.specs.Float.Ieee.{add, sub, mul}
 use Rattle.common.specs.Outcome.{check, or_nan, zero_f}
@@ -12,9 +12,24 @@ use Rattle.boundaries.specs.Boundary as paper
 use Rattle.boundaries.specs.Boundary.{term, Argument, in_p, in_ln, row, row_at, Form, tabled, straight, form_of}
 use Rattle.boundaries.specs.declared.Boundary.{Boundary}
 use Rattle.boundaries.specs.declared.table.Term.{Term}
+use Rattle.boundaries.specs.declared.table.Place.{Place}
+use Rattle.boundaries.specs.declared.table.Place.TheVariants.{Ab, Cd, Gh, Ij, Jk, Mn, Op, Qu, Rx, Uv, Wx}
 use Rattle.boundaries.specs.declared.table.Row.{Row}
 
--- ---- a row of the code
+-- ---- a row of the code, and its place in the table
+
+abbrev pub place_of : Place → ℕ
+place_of Ab = 0
+place_of Cd = 1
+place_of Gh = 2
+place_of Ij = 3
+place_of Jk = 4
+place_of Mn = 5
+place_of Op = 6
+place_of Qu = 7
+place_of Rx = 8
+place_of Uv = 9
+place_of Wx = 10
 
 abbrev pub argument_of : Bool → Argument
 argument_of true = in_ln
