@@ -11,10 +11,8 @@ pub fn take_rows(s: &[u8], n: usize, ps: &mut [f64], ts: &mut [f64])
     ensures ps_after { ps.new ≡ sets ps.old 0 (p_column s.now n) }
     ensures ts_after { ts.new ≡ sets ts.old 0 (t_column s.now n) }
 {
-    let mut i = 0;
-    while i < n {
+    for i in 0..n {
         ps[i] = float_at(s, 16 * i);
         ts[i] = float_at(s, 16 * i + 8);
-        i += 1;
     }
 }

@@ -19,11 +19,11 @@ returns c =
     let e : k ≡ rows_in a.done (length s) = c.rows_in-n.ensures in
     let lines : lines_of a.done p t k ≡ page_of a.done s =
     ap (λ (x : List Float). lines_of a.done x t k) c.take_rows.ensures.ps_after
-    ∙ ap (λ (x : List Float). lines_of a.done (sets a.ps.now 0 (p_column s k)) x k) c.take_rows.ensures.ts_after
-    ∙ lines_of_bytes a.done s k a.ps.now a.ts.now (omega arith) (omega arith)
+    ∙ ap (λ (x : List Float). lines_of a.done (sets a.room.now.ps 0 (p_column s k)) x k) c.take_rows.ensures.ts_after
+    ∙ lines_of_bytes a.done s k a.room.now.ps a.room.now.ts (omega arith) (omega arith)
     ∙ ap (block_of a.done s) e in record {
-      wrote = subst (λ (xs : List ℕ). Wrote a.lines.now 0 xs c.put_lines.new.out c.put_lines.result) lines c.put_lines.ensures.wrote;
+      wrote = subst (λ (xs : List ℕ). Wrote a.room.now.lines 0 xs c.put_lines.new.out c.put_lines.result) lines c.put_lines.ensures.wrote;
       upper_bound = omega (arith, c.put_lines.ensures.upper_bound, e);
-      ps_after = c.take_rows.ensures.ps_after ∙ ap (λ (i : ℕ). sets a.ps.now 0 (p_column s i)) e;
-      ts_after = c.take_rows.ensures.ts_after ∙ ap (λ (i : ℕ). sets a.ts.now 0 (t_column s i)) e;
+      ps_after = c.take_rows.ensures.ps_after ∙ ap (λ (i : ℕ). sets a.room.now.ps 0 (p_column s i)) e;
+      ts_after = c.take_rows.ensures.ts_after ∙ ap (λ (i : ℕ). sets a.room.now.ts 0 (t_column s i)) e;
     }

@@ -17,13 +17,12 @@ float_in_lem s i h = rw (le-leb (i + 8) (length s) h)
 
 pub loop-i-init : goal.loop-i-init
 unfolding joined
-loop-i-init c = record { reached = omega arith; ps_long = refl; ts_long = refl; ps_after = refl; ts_after = refl }
+loop-i-init c = record { ps_long = refl; ts_long = refl; ps_after = refl; ts_after = refl }
 
 pub loop-i-preserved : goal.loop-i-preserved
 loop-i-preserved c =
     let l = c.loop-i in
     let s = c.args.s.now in record {
-      reached = omega arith;
       ps_long = length-set l.ps l.i c.float_at.result ∙ l.invariant.ps_long;
       ts_long = length-set l.ts l.i c.float_at-in-loop-i.result ∙ l.invariant.ts_long;
       ps_after =
@@ -37,7 +36,7 @@ loop-i-preserved c =
 pub returns : goal.returns
 returns c =
     let l = c.loop-i in
-    let e : l.i ≡ c.args.n = le_antisymm l.invariant.reached c.loop-i-test.false in record {
+    let e : l.i ≡ c.args.n = le_antisymm l.auto.i-end c.loop-i-test.false in record {
       ps_after = l.invariant.ps_after ∙ ap (λ (k : ℕ). sets c.args.ps.now 0 (p_column c.args.s.now k)) e;
       ts_after = l.invariant.ts_after ∙ ap (λ (k : ℕ). sets c.args.ts.now 0 (t_column c.args.s.now k)) e;
     }
