@@ -13,8 +13,9 @@ use Rattle.common.specs.Outcome.{Outcome, value, refused, check, then, or_nan}
 use Rattle.common.specs.Decimal.{decimal}
 use Rattle.common.specs.Answer.{number_of, paper}
 use Rattle.common.proofs.Calls.{no_value}
+use Rattle.common.proofs.Same.{kind_of, kind_number}
 use Rattle.common.specs.declared.Refusal.{Refusal}
-use Rattle.common.specs.declared.Refusal.TheVariants.{NotFinite, First, Second, State, Step, Property, Columns, Border, Unfound}
+use Rattle.common.specs.declared.Refusal.TheVariants.{Border}
 use Rattle.rounding.specs.Fraction.{scaled_by}
 use Rattle.subregion.specs.declared.Letter.{Letter}
 use Rattle.subregion.specs.declared.Letter.TheVariants.{C, K, Q, R}
@@ -107,15 +108,7 @@ module _ (p t : Float) where
 
 -- ---- the answers that say so
 eight_is : (k : Refusal) → number_of k ≡ 8 → k ≡ Border
-eight_is NotFinite e = absurd (omega arith)
-eight_is First e = absurd (omega arith)
-eight_is Second e = absurd (omega arith)
-eight_is State e = absurd (omega arith)
-eight_is Step e = absurd (omega arith)
-eight_is Property e = absurd (omega arith)
-eight_is Columns e = absurd (omega arith)
-eight_is Border e = refl
-eight_is Unfound e = absurd (omega arith)
+eight_is k e = sym (kind_number k) ∙ ap kind_of e ∙ kind_number Border
 
 refused_with_8 : {A : Type 0} (r : Result A Refusal) → paper r ≡ refused 8 → r ≡ Err Border
 refused_with_8 (Ok x) e = absurd (no_value (sym e))
