@@ -16,7 +16,8 @@ const NEAR: f64 = 0.000001;
 fn held(worked: Result<f64, Refusal>, y: f64) -> Result<(), Refusal>
     ensures { paper result ≡ held_to y (paper worked) }
 {
-    let e = settle(worked? - y)?;
+    let x = worked?;
+    let e = settle(x - y)?;
     if size(e) <= NEAR {
         Ok(())
     } else {
