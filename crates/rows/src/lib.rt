@@ -15,6 +15,7 @@ use take::take_rows;
 
 // What a page is worked in: the columns of its rows, and its lines.
 // Kept: arrays of fixed size with a count beside them, since the program takes no heap (docs/SCOPE.md).
+#[derive(Drop)]
 pub struct Room {
     pub ps: [f64; 512],
     pub ts: [f64; 512],
