@@ -1,6 +1,6 @@
 // The border between regions 2 and 3: R7-97, equations 5 and 6 (common/boundaries.rs). First the steps of each, then the calls, then the test that
 // (p,T) lies on region 3's side. The steps are raw: a number that is lost travels as itself to the end.
-#![tactic(auto)]
+#![tactic(auto, using(common::proofs::Calls::passed_on, common::proofs::Calls::went_in))]
 
 ghost use Rattle.std.specs.Prelude.{◌≡◌, cond, not};
 ghost use Rattle.std.specs.Float.{binary64};
@@ -98,6 +98,7 @@ fn beside(p: f64, t: f64) -> bool
 }
 
 // The checks of a call with (p,T) that answers in region 3 alone: the box, then 8 beyond the border with region 2.
+#[tactic(auto, unfolding(crate::specs::Border::region3_box))]
 pub fn check_region3(p: MPa, t: Kelvin) -> Result<(), Refusal>
     ensures { paper result ≡ region3_box p.0 t.0 }
 {
