@@ -16,7 +16,7 @@ use Rattle.common.proofs.Laws.{never}
 abbrev zero_f : Float
 zero_f = fin false 0 (pos 0)
 
-to_T : {b : Bool} → b ≡ true → T b
+pub to_T : {b : Bool} → b ≡ true → T b
 to_T e = subst T (sym e) tt
 
 size_pos : (m : ℕ) (e : ℤ) → 0 < suc m * up e * 1
