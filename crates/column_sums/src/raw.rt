@@ -20,14 +20,7 @@ pub fn raw_sum(a: Order, b: Order, vi: f64, vj: f64, table: Columns) -> f64
 }
 
 // Two sums of one item.
-pub fn raw_pair(
-    a: Order,
-    s: Share,
-    t: Share,
-    vi: f64,
-    vj: f64,
-    table: Columns,
-) -> Pair
+pub fn raw_pair(a: Order, s: Share, t: Share, vi: f64, vj: f64, table: Columns) -> Pair
     ensures { (result.first ≡ or_nan (share_rule a s vi vj (rows table.entry)))
         × (result.second ≡ or_nan (share_rule a t vi vj (rows table.entry))) }
 {

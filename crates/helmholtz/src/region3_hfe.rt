@@ -10,7 +10,7 @@ use common::{finite_or_nan, over};
 use inverses::raw_logarithm;
 use joint::{Pair, finished, four_sums, joint_sums};
 use powers::fill_powers;
-use slopes::slope_sum;
+use slopes::{Columns, slope_sum};
 
 // Table 30, row 1, and rows 2 to 40 by column.
 const N1: f64 = 0.10658070028513e1;
@@ -67,6 +67,12 @@ const NS: [f64; 39] = [
     -0.44923899061815e-4,
 ];
 
+const TABLE: Columns = Columns {
+    is: &IS,
+    js: &JS,
+    ns: &NS,
+};
+
 // A sum by itself, its terms differentiated so often by δ and by τ. The exponents go from 0 to 11 and to 26, and 2 down where a term is differentiated twice.
 fn sum(a: Order, b: Order, delta: f64, tau: f64) -> f64
     ensures { Number (slope a b (check delta) (check tau)) result }
@@ -75,7 +81,7 @@ fn sum(a: Order, b: Order, delta: f64, tau: f64) -> f64
     let mut wj = [0.0; 129];
     fill_powers(delta, 11, 2, &mut wi);
     fill_powers(tau, 26, 2, &mut wj);
-    gated(delta, tau, slope_sum(a, b, &wi, &wj, &IS, &JS, &NS))
+    gated(delta, tau, slope_sum(a, b, &wi, &wj, TABLE))
 }
 
 // Two sums that share their terms.
@@ -86,7 +92,7 @@ fn pair(s: Share, t: Share, delta: f64, tau: f64) -> Pair
     let mut wj = [0.0; 129];
     fill_powers(delta, 11, 0, &mut wi);
     fill_powers(tau, 26, 0, &mut wj);
-    let p = joint_sums(Order::Zero, s, t, &wi, &wj, &IS, &JS, &NS);
+    let p = joint_sums(Order::Zero, s, t, &wi, &wj, TABLE);
     Pair {
         first: finished(s, delta, tau, p.first),
         second: finished(t, delta, tau, p.second),
@@ -102,7 +108,7 @@ fn four(delta: f64, tau: f64) -> Slopes
     let mut wj = [0.0; 129];
     fill_powers(delta, 11, 0, &mut wi);
     fill_powers(tau, 26, 0, &mut wj);
-    let p = four_sums(&wi, &wj, &IS, &JS, &NS);
+    let p = four_sums(&wi, &wj, TABLE);
     Slopes {
         delta: finished(Share::I, delta, tau, p.i),
         deltadelta: finished(Share::Ii, delta, tau, p.ii),
@@ -164,7 +170,7 @@ pub fn polys_0_j_powi_reg3(delta: f64, tau: f64) -> PhiTau
     }
 }
 
-// φ_δ and φ_τ by one sum.
+// φ_δ and φ_τ by one sum. Kept: of `PhiTau`'s shape, but its first number is another one, which its name says.
 #[derive(Clone, Copy)]
 pub struct DeltaTau {
     pub delta: f64,

@@ -40,8 +40,9 @@ abbrev pub Inner : Type 0
 Inner = Zip (Iter ℤ) (Iter ℤ)
 
 -- the equations are what `iter`, the two `zip` and the `for` say of their iterators
-pub yields_rows : (is js : List ℤ) (ns : List Float) {first : Iter ℤ} {inner : Inner} {both s : Columns} → iter_rest first ≡ is → zip_first inner ≡ first → iter_rest (zip_second inner) ≡ js
-    → zip_first both ≡ inner → iter_rest (zip_second both) ≡ ns → s ≡ both → YieldsList (zips (zips fronts fronts) fronts) entry s (beside is js ns)
+pub yields_rows : (is js : List ℤ) (ns : List Float) {first : Iter ℤ} {inner : Inner} {both s : Columns}
+    → iter_rest first ≡ is → zip_first inner ≡ first → iter_rest (zip_second inner) ≡ js → zip_first both ≡ inner → iter_rest (zip_second both) ≡ ns → s ≡ both
+    → YieldsList (zips (zips fronts fronts) fronts) entry s (beside is js ns)
 yields_rows is js ns p q r t u e =
     let is_inner = ap (λ (z : Columns). zip_first z) e ∙ t in
     YieldsList-from_zip
@@ -69,7 +70,8 @@ module _ (u : Row → Float) where
     pub none_yet : LeftAfter [] zero_f
     none_yet = by_rows zero_f is js ns
 
-    pub one_more : (xs : List Lent) (x : Lent) (s w : Float) → (length xs < length (beside is js ns)) × (entry x ≡ get_or (beside is js ns) (length xs) (entry x))
+    pub one_more : (xs : List Lent) (x : Lent) (s w : Float)
+        → (length xs < length (beside is js ns)) × (entry x ≡ get_or (beside is js ns) (length xs) (entry x))
         → w ≡ of (entry x) → LeftAfter xs s → LeftAfter (xs ++ x ∷ []) (add binary64 s w)
     unfolding raw_total
     one_more xs x s w h e l =

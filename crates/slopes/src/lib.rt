@@ -39,7 +39,7 @@ pub fn factor(d: Order, w: &[f64; 129], k: i32, x: f64) -> f64
     }
 }
 
-// The sum of the rows' terms.
+// The sum of the rows' terms. Kept: the two tables of powers are no struct, since `factor` reads each by itself.
 fn slope_rows(a: Order, b: Order, wi: &[f64; 129], wj: &[f64; 129], table: Columns) -> f64
     ensures { Summed a b wi.now wj.now (rows table.entry) result }
 {

@@ -29,7 +29,10 @@ loop-i-preserved c =
       by_i_is = c.factor.ensures;
       item_is = c.factor-item.ensures;
     } in
-    let turn = YieldsList-turn (yields_rows t.is.now t.js.now t.ns.now c.iter.ensures.rest c.zip.ensures.first c.zip.ensures.second.0 c.zip-i-items.ensures.first c.zip-i-items.ensures.second.0 c.into_iter-i-iterator.ensures.into_iter_gives) l.yielded l.i-iterator l.yielded_by _ c.next.new.self x some.is c.next.ensures.steps in
+    let columns =
+    yields_rows t.is.now t.js.now t.ns.now c.iter.ensures.rest c.zip.ensures.first c.zip.ensures.second.0 c.zip-i-items.ensures.first
+    c.zip-i-items.ensures.second.0 c.into_iter-i-iterator.ensures.into_iter_gives in
+    let turn = YieldsList-turn columns l.yielded l.i-iterator l.yielded_by _ c.next.new.self x some.is c.next.ensures.steps in
     let add = added a.a a.wi.now a.wj.now t.is.now t.js.now t.ns.now l.yielded x turn item in
     record {
       first = add a.s l.first _ c.weigh-first.ensures l.invariant.first;
@@ -41,6 +44,9 @@ returns c =
     let a = c.args in
     let t = a.table in
     let l = c.loop-i in
-    let all = YieldsList-end (yields_rows t.is.now t.js.now t.ns.now c.iter.ensures.rest c.zip.ensures.first c.zip.ensures.second.0 c.zip-i-items.ensures.first c.zip-i-items.ensures.second.0 c.into_iter-i-iterator.ensures.into_iter_gives) l.yielded l.i-iterator l.yielded_by _ c.next.new.self c.in-None.is c.next.ensures.steps in
+    let columns =
+    yields_rows t.is.now t.js.now t.ns.now c.iter.ensures.rest c.zip.ensures.first c.zip.ensures.second.0 c.zip-i-items.ensures.first
+    c.zip-i-items.ensures.second.0 c.into_iter-i-iterator.ensures.into_iter_gives in
+    let all = YieldsList-end columns l.yielded l.i-iterator l.yielded_by _ c.next.new.self c.in-None.is c.next.ensures.steps in
     let end = ended a.a a.wi.now a.wj.now t.is.now t.js.now t.ns.now l.yielded all.1 in
     (end a.s l.first l.invariant.first, end a.t l.second l.invariant.second)

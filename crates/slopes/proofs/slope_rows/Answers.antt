@@ -27,8 +27,11 @@ loop-i-preserved c =
     let small_j : mag some.field-0-0-1.now < 2 ^ 31 = search rules in
     let p = rw (back _ small_i) at c.factor.ensures in
     let q = rw (back _ small_j) at c.factor-sum.ensures in
+    let columns =
+    yields_rows is js ns c.iter.ensures.rest c.zip.ensures.first c.zip.ensures.second.0 c.zip-i-items.ensures.first
+    c.zip-i-items.ensures.second.0 c.into_iter-i-iterator.ensures.into_iter_gives in
     one_more (tabled_term a.a a.b a.wi.now a.wj.now) is js ns l.yielded x l.sum _
-    (YieldsList-turn (yields_rows is js ns c.iter.ensures.rest c.zip.ensures.first c.zip.ensures.second.0 c.zip-i-items.ensures.first c.zip-i-items.ensures.second.0 c.into_iter-i-iterator.ensures.into_iter_gives) l.yielded l.i-iterator l.yielded_by _ c.next.new.self x some.is c.next.ensures.steps)
+    (YieldsList-turn columns l.yielded l.i-iterator l.yielded_by _ c.next.new.self x some.is c.next.ensures.steps)
     (rw (q, p) refl) l.invariant
 
 pub returns : goal.returns
@@ -38,5 +41,8 @@ returns c =
     let js = a.table.js.now in
     let ns = a.table.ns.now in
     let l = c.loop-i in
-    let end = YieldsList-end (yields_rows is js ns c.iter.ensures.rest c.zip.ensures.first c.zip.ensures.second.0 c.zip-i-items.ensures.first c.zip-i-items.ensures.second.0 c.into_iter-i-iterator.ensures.into_iter_gives) l.yielded l.i-iterator l.yielded_by _ c.next.new.self c.in-None.is c.next.ensures.steps in
+    let columns =
+    yields_rows is js ns c.iter.ensures.rest c.zip.ensures.first c.zip.ensures.second.0 c.zip-i-items.ensures.first
+    c.zip-i-items.ensures.second.0 c.into_iter-i-iterator.ensures.into_iter_gives in
+    let end = YieldsList-end columns l.yielded l.i-iterator l.yielded_by _ c.next.new.self c.in-None.is c.next.ensures.steps in
     record { is = none_left (tabled_term a.a a.b a.wi.now a.wj.now) is js ns l.yielded l.sum end.1 l.invariant }
