@@ -8,7 +8,7 @@ ghost use Rattle.properties.specs.Td.{reduced_density, inverse_temperature, Td2v
 ghost use Rattle.properties.specs.Together.{checked, Td2cp_w};
 
 use crate::RawCpW;
-use common::{Answer, DC_WATER, Kelvin, KgPerM3, MPa, RGAS_WATER, TC_WATER, finite_or_nan, over};
+use common::{DC_WATER, Kelvin, KgPerM3, MPa, RGAS_WATER, Refusal, TC_WATER, finite_or_nan, over};
 use helmholtz::{
     Slopes, phi_delta_reg3, phi_tau_reg3, phi_tautau_reg3, polys_0_j_powi_reg3,
     polys_i_ii_ij_jj_powi_reg3, polys_i_j_powi_reg3,
@@ -121,7 +121,7 @@ pub fn raw_cp_w(t: Kelvin, d: KgPerM3) -> RawCpW
 }
 
 // The p of a state that a call works out, MPa: 4 where it lies outside its range.
-pub fn state_p(t: Kelvin, d: KgPerM3) -> Answer
+pub fn state_p(t: Kelvin, d: KgPerM3) -> Result<f64, Refusal>
     ensures { paper result ≡ state_pressure (check t.0) (check d.0) }
 {
     settle_p(MPa(raw_p(t, d)))
