@@ -3,10 +3,10 @@ use mathlib.Core.Path.{sym, ◌∙◌}
 use Rattle.place.specs.AcceptedPlace.{accepted_at}
 use Rattle.place.proofs.accept.Goals as goal
 
-pub returns-then-in_range : goal.returns-then-in_range
+pub returns-then-not-in_range : goal.returns-then-not-in_range
 unfolding accepted_at
-returns-then-in_range c = rw (sym c.in_range.ensures ∙ c.if-in_range.true) c.checked.ensures
+returns-then-not-in_range c = rw (sym c.in_range.ensures ∙ c.if-not-in_range.true)
 
 pub returns : goal.returns
 unfolding accepted_at
-returns c = rw (sym c.in_range.ensures ∙ c.if-in_range.false)
+returns c = rw (sym c.in_range.ensures ∙ c.if-not-in_range.false) c.checked.ensures

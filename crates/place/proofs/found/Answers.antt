@@ -1,18 +1,17 @@
 -- `place::found` meets its contract: the proposal, then its range and the check. Assumes nothing.
-use mathlib.Core.Path.{sym, ap, ◌∙◌}
-use Rattle.common.specs.Answer.{paper_verdict}
-use Rattle.secant.specs.Secant.{paper_proposal}
+use mathlib.Core.Path.{sym}
+use Rattle.common.proofs.Calls.{passed_on}
 use Rattle.place.specs.AcceptedPlace.{found_on}
 use Rattle.place.proofs.found.Goals as goal
 
-pub returns-in-Accepted : goal.returns-in-Accepted
+pub returns-in_err-proposal : goal.returns-in_err-proposal
 unfolding found_on
-returns-in-Accepted c = rw (sym c.proposed.ensures ∙ ap paper_proposal c.in-Value.is, sym c.accept.ensures ∙ ap paper_verdict c.in-Accepted.is)
+returns-in_err-proposal c = passed_on _ _ _ c.from_residual.ensures.1 c.in_err-proposal.ensures
 
-pub returns-in-Refused-accept : goal.returns-in-Refused-accept
+pub returns-in_err-accept : goal.returns-in_err-accept
 unfolding found_on
-returns-in-Refused-accept c = rw (sym c.proposed.ensures ∙ ap paper_proposal c.in-Value.is, sym c.accept.ensures ∙ ap paper_verdict c.in-Refused-accept.is)
+returns-in_err-accept c = rw (sym c.in_ok-proposal.ensures) (passed_on _ _ _ c.from_residual-in_err-accept.ensures.1 c.in_err-accept.ensures)
 
-pub returns-in-Refused : goal.returns-in-Refused
+pub returns : goal.returns
 unfolding found_on
-returns-in-Refused c = rw (sym c.proposed.ensures ∙ ap paper_proposal c.in-Refused.is)
+returns c = rw (sym c.in_ok-proposal.ensures, sym c.in_ok-accept.ensures)
