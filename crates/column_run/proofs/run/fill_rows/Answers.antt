@@ -17,7 +17,6 @@ pub loop-i-init : goal.loop-i-init
 loop-i-init c =
     let q = c.requires in
     record {
-      in_range = omega arith;
       letters = filled_none letter_in 0 _ _ _ (rows_long mark_in 0 _ _ _ q.0 q.2);
       densities = filled_none density_in nan _ _ _ q.1;
       refusals = filled_none refusal_in 0 _ _ _ (rows_long stop_in 0 _ _ _ q.0 q.3);
@@ -38,7 +37,6 @@ loop-i-preserved c =
     let k : get_or l.refusals i 0 ≡ stop_in p t = v.stops.each i (omega arith) h in
     let e : c.line_of-line.result ≡ row_rule p t = c.line_of-line.ensures ∙ rw (m, k) (row_is (origin_rule p t) p t refl) in
     record {
-      in_range = omega arith;
       letters = filled_more letter_in 0 _ _ _ _ _ h v.letters (ap (λ (r : Line). r.letter) e);
       densities = filled_more density_in nan _ _ _ _ _ h v.densities (ap (λ (r : Line). r.density.0) e);
       refusals = filled_more refusal_in 0 _ _ _ _ _ h v.refusals (ap (λ (r : Line). r.refusal) e);

@@ -10,7 +10,7 @@ use Rattle.column_run.proofs.Rows.{filled_none, filled_more, filled_all}
 use Rattle.column_run.proofs.run.mark_rows.Goals as goal
 
 pub loop-k-init : goal.loop-k-init
-loop-k-init c = record { in_range = omega arith; letters = filled_none mark_in 0 _ _ _ c.requires.1; refusals = filled_none stop_in 0 _ _ _ c.requires.2 }
+loop-k-init c = record { letters = filled_none mark_in 0 _ _ _ c.requires.1; refusals = filled_none stop_in 0 _ _ _ c.requires.2 }
 
 pub loop-k-preserved : goal.loop-k-preserved
 loop-k-preserved c =
@@ -18,9 +18,8 @@ loop-k-preserved c =
     let h : l.k < length c.args.ps.now = omega arith in
     let e = c.origin_pT-w.ensures in
     record {
-      in_range = omega arith;
       letters = filled_more mark_in 0 _ _ _ _ _ h l.invariant.letters (c.mark.ensures ∙ ap mark_of e);
-      refusals = filled_more stop_in 0 _ _ _ _ _ h l.invariant.refusals (c.stop.ensures ∙ ap (λ (q : Outcome Origin). number_in q) e);
+      refusals = filled_more stop_in 0 _ _ _ _ _ h l.invariant.refusals (c.refusal_byte.ensures ∙ ap (λ (q : Outcome Origin). number_in q) e);
     }
 
 pub returns : goal.returns
