@@ -114,6 +114,7 @@ pub fn letter_at(p: MPa, t: Kelvin) -> Result<Letter, Refusal>
 }
 
 // The letter of the subregion that (p, t) lies in: refused with 8 beyond the border with region 2.
+#[tactic(auto, unfolding(crate::specs::Choice::letter_rule))]
 pub fn sub_region3_pT(p: MPa, t: Kelvin) -> Result<Letter, Refusal>
     ensures { paper result ≡ letter_rule p.0 t.0 }
 {

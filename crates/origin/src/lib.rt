@@ -45,6 +45,7 @@ pub fn origin_at(p: MPa, t: Kelvin) -> Result<Origin, Refusal>
 }
 
 // Where a (p,T) record and a row of the column run take their volume from: the box and the border with region 2, once, then the origin.
+// Kept: boundary's sub_region3_pT is these two steps for a letter; a function handed the second step would be no plainer.
 #[tactic(auto, unfolding(crate::specs::Origin::origin_rule))]
 pub fn origin_pT(p: MPa, t: Kelvin) -> Result<Origin, Refusal>
     ensures { paper result ≡ origin_rule p.0 t.0 }
