@@ -2,7 +2,7 @@
 // `Td_thermal_reg3` and `Td_ext_reg3` name.
 #![tactic(auto)]
 
-use common::Answer;
+use common::Refusal;
 
 mod property;
 
@@ -11,6 +11,6 @@ pub use property::{Td_thermal_reg3, Td2cp_w_reg3};
 // What is asked of cp and w together: each a value or a refusal of its own.
 #[derive(Clone, Copy)]
 pub struct CpW {
-    pub cp: Answer,
-    pub w: Answer,
+    pub cp: Result<f64, Refusal>,
+    pub w: Result<f64, Refusal>,
 }
