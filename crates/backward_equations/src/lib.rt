@@ -9,14 +9,14 @@ mod pattern;
 pub use by_side::{raw_hs2p, raw_ph2T, raw_ph2v, raw_ps2T, raw_ps2v};
 
 // A side of region 3: 3a up to the dividing line, which belongs to it, and 3b above.
-#[derive(Clone, Copy)]
+#[derive(Clone, Copy, Debug, PartialEq, Eq)]
 pub enum Side {
     A,
     B,
 }
 
 // An equation: what it gives, on which side, and from what.
-#[derive(Clone, Copy)]
+#[derive(Clone, Copy, Debug, PartialEq, Eq)]
 enum Equation {
     T3aPh,
     T3bPh,
@@ -31,7 +31,7 @@ enum Equation {
 }
 
 // The form of an equation at x and y, with its numbers z, x*, a, y*, b.
-#[derive(Clone, Copy)]
+#[derive(Clone, Copy, Debug, PartialEq)]
 enum Form {
     // z times the sum at x / x* + a and y / y* - b
     Plus(f64, f64, f64, f64, f64),
