@@ -13,9 +13,6 @@ lies_one κs a e x y p q = p ∙ sym q
 pub byte_at_one : One 1 own.byte_at.Kinds.ps own.byte_at.Kinds.r own.byte_at.Reads.Post
 byte_at_one κs a e x y p q = p ∙ sym q
 
-pub wide_one : One 0 own.wide.Kinds.ps own.wide.Kinds.r own.wide.Reads.Post
-wide_one κs a e x y p q = p.0 ∙ sym q.0
-
 pub int_at_one : One 1 own.int_at.Kinds.ps own.int_at.Kinds.r own.int_at.Reads.Post
 int_at_one κs a e x y p q = p ∙ sym q
 

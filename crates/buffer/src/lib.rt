@@ -19,13 +19,6 @@ pub fn byte_at(s: &[u8], at: usize) -> u8
     s.get(at).copied().unwrap_or(0)
 }
 
-// A byte as a number, with its bound, which `u64::from` does not tell its caller.
-pub fn wide(b: u8) -> u64
-    ensures { (result ≡ b) × (result < 256) }
-{
-    b.into()
-}
-
 // The N bytes from an index on, where all of them lie in s.
 fn array_at<const N: usize>(s: &[u8], at: usize) -> Option<[u8; N]>
     ensures { MatchOption result (length s.now < at + N) (λ b. (at + N ≤ length s.now) ×
@@ -35,6 +28,7 @@ fn array_at<const N: usize>(s: &[u8], at: usize) -> Option<[u8; N]>
 }
 
 // Four bytes with a sign.
+// Kept: a match here and in `float_at`, since the closure of a `map_or` tells the prover nothing of what it answers (tried).
 pub fn int_at(s: &[u8], at: usize) -> i32
     ensures { result ≡ int_in s.now at }
 {
