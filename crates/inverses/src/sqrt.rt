@@ -53,15 +53,15 @@ impl Digits {
         low
     }
 
-    // A first guess at the root of d * 2^52, by Newton's steps from a parabola. Nothing is promised of it but its digits.
+    // A first guess at the root of d * 2^52, by three of Newton's steps from a parabola. Nothing is promised of it but its digits.
     fn proposed(self) -> u64
         ensures { (2 ^ 52 ≤ result) × (result < 2 ^ 53) }
     {
         let f = ((self.d / 2) as f64) * 0.0000000000000004440892098500626;
-        let s0 = (f * -0.0348 + 0.5022) * f + 0.543;
-        let s1 = (s0 + f / s0) * 0.5;
-        let s2 = (s1 + f / s1) * 0.5;
-        let s = (s2 + f / s2) * 0.5;
+        let mut s = (f * -0.0348 + 0.5022) * f + 0.543;
+        for _ in 0..3 {
+            s = (s + f / s) * 0.5;
+        }
         if s < 1.0 {
             0x10_0000_0000_0000
         } else if s < 2.0 {
