@@ -29,6 +29,7 @@ fn rows_in(done: u64, n: usize) -> usize
 }
 
 // The lines of up to 512 rows, after `done` rows, by way of the two columns. Answers where they end.
+// Kept: an index and no slice of the lines, which would leave the room lent, with nothing promised of it.
 pub fn page(bytes: &[u8], done: u64, room: &mut Room) -> usize
     ensures wrote { Wrote room.old.lines 0 (page_of done bytes.now) room.new.lines result }
     ensures upper_bound { result ≤ 16384 }

@@ -40,6 +40,7 @@ fn put_line(text: &mut Writer, row: u64, c: Result<Letter, Refusal>)
 }
 
 // The lines of the first n rows of the columns, from index 0 on. Answers where they end.
+// Kept: the columns and the lines apart, for with the room as one it would have to promise that the columns stay.
 pub fn put_lines(
     ps: &[f64; 512],
     ts: &[f64; 512],
