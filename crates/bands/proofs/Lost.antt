@@ -63,7 +63,7 @@ spread_is b (x ∷ xs) = ap (λ (z : Float). finite (spread z xs)) (ap (add bina
     regroup true b c = refl
     regroup false b c = refl
 
-none_lost : (x : Float) (xs : List Float) → finite (spread (sub binary64 x x) xs) ≡ every finite (x ∷ xs)
+pub none_lost : (x : Float) (xs : List Float) → finite (spread (sub binary64 x x) xs) ≡ every finite (x ∷ xs)
 unfolding every
 none_lost x xs = ap (λ (z : Float). finite (spread z xs)) (less_itself x) ∙ spread_is (finite x) xs
 
