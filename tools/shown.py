@@ -49,7 +49,7 @@ def owners(text):
             block = ""
         opened = IMPL.match(line)
         if not state and opened:
-            words = [re.sub(r"\W+", " ", it or "").split() for it in (opened[3], opened[1], opened[2])]
+            words = [re.sub(r"\W+", " ", (it or "").replace("[", "array ", (it or "").startswith("["))).split() for it in (opened[3], opened[1], opened[2])]
             block = ("".join(it[:1].upper() + it[1:] for word in words for it in word) if opened[1] else words[0][0]) + "::"
         starts = FN.match(line)
         if not state and starts:
