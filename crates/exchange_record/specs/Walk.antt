@@ -1,5 +1,5 @@
 -- Only helps proofs: what the reader keeps of the fields that it passed, and what one step of it comes to.
-use Rattle.std.specs.Prelude.{◌≡◌, ◌⊎◌, List, [], ◌∷◌, ◌++◌, ℕ, ◌+◌, ◌*◌, ◌≤◌, ◌<◌, length, get_or, drop, Result, Ok, Err}
+use Rattle.std.specs.Prelude.{◌≡◌, ◌⊎◌, List, [], ◌∷◌, ◌++◌, ℕ, Result, Ok, Err}
 use Rattle.common.specs.Outcome.{Outcome, value, refused, then}
 use Rattle.exchange_record.specs.Grammar.{Field, said, Whole, spelt, word, pair_of, Cut, Course, skipped, taken, stopped, fate_of}
 use Rattle.exchange_record.specs.Reading.{read_number}
@@ -8,16 +8,8 @@ use Rattle.exchange_record.specs.declared.ReadRefusal.{ReadRefusal}
 use Rattle.exchange_record.specs.declared.Known.{Known}
 use Rattle.exchange_record.specs.declared.Seen.{Seen}
 use Rattle.exchange_record.specs.declared.Seen.TheVariants.{Nothing, One, Two, More}
-use Rattle.exchange_record.specs.declared.Cursor.{Cursor}
 use Rattle.exchange_record.specs.declared.Fate.{Fate}
 use Rattle.exchange_record.specs.declared.Fate.TheVariants.{Skipped, Taken}
-
--- two bytes, the high one first
-abbrev pub two_at : List ℕ → ℕ → ℕ
-two_at s i = 256 * get_or s i 0 + get_or s (i + 1) 0
-
-abbrev pub size_at : List ℕ → ℕ → ℕ
-size_at s i = 256 * get_or s (i + 1) 0 + get_or s (i + 2) 0
 
 abbrev pub paper_fate : Result Fate ReadRefusal → Course
 paper_fate (Ok Skipped) = skipped
@@ -55,28 +47,23 @@ finished (One x) = refused 14
 finished (Two x y) = asked_by x.tag x.bits y.tag y.bits
 finished (More z) = refused 14
 
--- the field at a cursor, whole, with the bytes after it from `next` on
-pub record FieldAt (s : List ℕ) (at next : ℕ) : Type 0 where
+-- the first field, whole, is skipped, or taken
+pub record Passed (s : List ℕ) (seen after : Seen) (rest : List ℕ) : Type 0 where
   pub field : Field
   pub whole : Whole field
-  pub bytes : drop at s ≡ spelt field ++ drop next s
-  pub further : at < next
-  pub within : next ≤ length s
-
--- it is skipped, or taken
-pub record Passed (s : List ℕ) (c d : Cursor) : Type 0 where
-  pub here : FieldAt s c.at d.at
+  pub bytes : s ≡ spelt field ++ rest
   pub course :
-      ((fate_of (last_of c.seen) here.field.tag (said here.field) ≡ skipped) × (d.seen ≡ c.seen))
-      ⊎ ((fate_of (last_of c.seen) here.field.tag (said here.field) ≡ taken)
-      × (d.seen ≡ added c.seen (kept here.field)))
+      ((fate_of (last_of seen) field.tag (said field) ≡ skipped) × (after ≡ seen))
+      ⊎ ((fate_of (last_of seen) field.tag (said field) ≡ taken) × (after ≡ added seen (kept field)))
 
--- it stops the reader
-pub record Stops (s : List ℕ) (c : Cursor) (n : ℕ) : Type 0 where
-  pub next : ℕ
-  pub here : FieldAt s c.at next
-  pub course : fate_of (last_of c.seen) here.field.tag (said here.field) ≡ stopped n
+-- or it stops the reader, whole
+pub record Stopped (s : List ℕ) (seen : Seen) (n : ℕ) : Type 0 where
+  pub field : Field
+  pub rest : List ℕ
+  pub whole : Whole field
+  pub bytes : s ≡ spelt field ++ rest
+  pub course : fate_of (last_of seen) field.tag (said field) ≡ stopped n
 
-abbrev pub Stepped : List ℕ → Cursor → Result Cursor ReadRefusal → Type 0
-Stepped s c (Ok d) = Passed s c d
-Stepped s c (Err k) = (Cut (drop c.at s) × (read_number k ≡ 10)) ⊎ Stops s c (read_number k)
+-- or cut off
+abbrev pub Stops : List ℕ → Seen → ℕ → Type 0
+Stops s seen n = (Cut s × (n ≡ 10)) ⊎ Stopped s seen n

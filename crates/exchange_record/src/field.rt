@@ -1,10 +1,10 @@
-// One field: what becomes of it, and the cursor past it.
-ghost use Rattle.std.specs.Prelude.{◌≡◌, ◌&&◌, ltb, leb, ◌<◌, length};
-ghost use Rattle.exchange_record.specs.Grammar.{fate_of};
-ghost use Rattle.exchange_record.specs.Walk.{paper_fate, Stepped};
+// One field: what becomes of it, and the bytes after it.
+ghost use Rattle.std.specs.Prelude.{◌≡◌, ◌&&◌, ltb, leb, ◌+◌, ◌*◌, ◌<◌, length, MatchResult};
+ghost use Rattle.exchange_record.specs.Grammar.{word, fate_of};
+ghost use Rattle.exchange_record.specs.Reading.{read_number};
+ghost use Rattle.exchange_record.specs.Walk.{paper_fate, Passed, Stops};
 
-use crate::number::{two_at, word_at};
-use crate::{Cursor, Fate, Known, ReadRefusal, Seen};
+use crate::{Fate, Known, ReadRefusal, Seen};
 
 // The tags of p, T, d, h, s.
 fn known(tag: u8) -> bool
@@ -32,30 +32,40 @@ fn judge(last: u8, tag: u8, size: usize) -> Result<Fate, ReadRefusal>
     Ok(Fate::Taken)
 }
 
-// The field at the cursor: it is skipped, taken, or stops the reader. A length is held against the bytes that are left before it is gone by.
-pub fn step(s: &[u8], c: Cursor) -> Result<Cursor, ReadRefusal>
-    requires { c.at < length s.now }
-    ensures { Stepped s.now c result }
+// The length that a field's two bytes say, the high one first.
+fn said(high: u8, low: u8) -> usize
+    ensures { result ≡ 256 * high + low }
 {
-    let at = c.at;
-    let left = s.len() - at;
-    if left < 3 {
+    usize::from(u16::from_be_bytes([high, low]))
+}
+
+// The eight bytes of a number, the high byte first.
+fn word_of(b: &[u8]) -> u64
+    requires { length b.now ≡ 8 }
+    ensures { result ≡ word b.now }
+{
+    u64::from_be_bytes([b[0], b[1], b[2], b[3], b[4], b[5], b[6], b[7]])
+}
+
+// The first field is skipped, taken, or stops the reader: what was seen with it, and the bytes after it. Its length is held against the bytes that are left
+// before they are gone by.
+pub fn step(s: &[u8], seen: Seen) -> Result<(Seen, &[u8]), ReadRefusal>
+    requires { 0 < length s.now }
+    ensures { MatchResult result (λ p. Passed s.now seen p.0 p.1.now) (λ k. Stops s.now seen (read_number k)) }
+{
+    let [tag, high, low, rest @ ..] = s else {
         return Err(ReadRefusal::PastEnd);
-    }
-    let tag = s[at];
-    let size = two_at(s, at + 1);
-    if left - 3 < size {
+    };
+    let size = said(*high, *low);
+    let Some((body, rest)) = rest.split_at_checked(size) else {
         return Err(ReadRefusal::PastEnd);
-    }
-    let seen = match judge(c.seen.last(), tag, size)? {
-        Fate::Skipped => c.seen,
-        Fate::Taken => c.seen.with(Known {
-            tag,
-            bits: word_at(s, at + 3),
+    };
+    let seen = match judge(seen.last(), *tag, size)? {
+        Fate::Skipped => seen,
+        Fate::Taken => seen.with(Known {
+            tag: *tag,
+            bits: word_of(body),
         }),
     };
-    Ok(Cursor {
-        at: at + 3 + size,
-        seen,
-    })
+    Ok((seen, rest))
 }

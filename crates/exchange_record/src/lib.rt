@@ -1,5 +1,5 @@
 // The exchange record, read: fields of a one-byte tag, a two-byte length, the high byte first, and that many bytes. What is a record and what
-// is refused stands in specs/Grammar.antt. The numbers in a field (`number`), one field and what becomes of it (`field`), the whole (`reader`).
+// is refused stands in specs/Grammar.antt. One field and what becomes of it (`field`), the whole (`reader`).
 #![tactic(auto)]
 
 ghost use Rattle.std.specs.Prelude.{◌≡◌};
@@ -7,7 +7,6 @@ ghost use Rattle.exchange_record.specs.Reading.{read_number, pair_byte, pair_by,
 ghost use Rattle.exchange_record.specs.Walk.{last_of, added};
 
 mod field;
-mod number;
 mod reader;
 
 pub use reader::read;
@@ -115,13 +114,6 @@ impl Seen {
             Seen::Two(_, _) | Seen::More(_) => Seen::More(f.tag),
         }
     }
-}
-
-// Where the reader stands: the first byte that was not looked at, and what was seen before it.
-#[derive(Clone, Copy, Debug, PartialEq, Eq)]
-pub struct Cursor {
-    pub at: usize,
-    pub seen: Seen,
 }
 
 // What becomes of a field that does not stop the reader.

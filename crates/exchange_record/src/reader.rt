@@ -4,7 +4,7 @@ ghost use Rattle.exchange_record.specs.Reading.{paper_read, Means};
 ghost use Rattle.exchange_record.specs.Walk.{asked_by, finished};
 
 use crate::field::step;
-use crate::{Asked, Cursor, Known, Pair, ReadRefusal, Seen};
+use crate::{Asked, Known, Pair, ReadRefusal, Seen};
 
 // The pair of two known fields.
 #[tactic(auto, unfolding(crate::specs::Walk::asked_by))]
@@ -40,12 +40,10 @@ fn finish(seen: Seen) -> Result<Asked, ReadRefusal>
 pub fn read(s: &[u8]) -> Result<Asked, ReadRefusal>
     ensures { Means s.now (paper_read result) }
 {
-    let mut c = Cursor {
-        at: 0,
-        seen: Seen::Nothing,
-    };
-    while c.at < s.len() {
-        c = step(s, c)?;
+    let mut rest = s;
+    let mut seen = Seen::Nothing;
+    while !rest.is_empty() {
+        (seen, rest) = step(rest, seen)?;
     }
-    finish(c.seen)
+    finish(seen)
 }
