@@ -23,6 +23,7 @@ fn found(origin: Origin, volume: M3PerKg) -> Result<State, Refusal>
 
 // The volume in m3/kg, raw. It stands apart, so that what asks for it is short enough to go where it is called; p and t are bare in here, where
 // a struct of one number would cost the column run an instruction or two a row.
+#[tactic(auto, unfolding(crate::specs::State::volume_from, crate::specs::Equation::volume_at, std::specs::Prelude::from_bits, common::specs::Decimal::whole))]
 fn raw_from(o: Origin, p: f64, t: f64) -> f64
     ensures { check result ≡ volume_from o p t }
 {
@@ -33,6 +34,7 @@ fn raw_from(o: Origin, p: f64, t: f64) -> f64
 }
 
 // The volume with its density.
+#[tactic(auto, unfolding(crate::specs::State::state_by, crate::specs::State::volume_from))]
 pub fn found_by(o: Origin, p: MPa, t: Kelvin) -> Result<State, Refusal>
     ensures { paper result ≡ state_by o p.0 t.0 }
 {

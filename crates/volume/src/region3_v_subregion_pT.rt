@@ -12,6 +12,7 @@ use subregion::Letter;
 use tables::letter_sum;
 
 // Table 4: v*, p*, T*, a and b.
+#[tactic(auto, unfolding(std::specs::Prelude::from_bits, common::specs::Decimal::decimal, common::specs::Decimal::whole, common::specs::Decimal::scaled))]
 pub fn equation(l: Letter) -> Equation
     ensures { result ≡ equation_of l }
 {
