@@ -36,6 +36,7 @@ fn side_ph(p: MPa, h: KJPerKg) -> Result<Side, Refusal>
 }
 
 // The side of an entropy, with p or with h: 3a up to the critical one, which belongs to it.
+#[tactic(auto, unfolding(std::specs::Prelude::from_bits, common::specs::Decimal::decimal, common::specs::Decimal::scaled))]
 pub fn side_s(s: KJPerKgK) -> Side
     ensures { result ≡ side_s s.0 }
 {

@@ -66,6 +66,7 @@ pub fn pT2v_3subreg(p: MPa, t: Kelvin, l: Letter) -> Result<f64, Refusal>
 }
 
 // The letter on the saturation line.
+#[tactic(auto, unfolding(std::specs::Prelude::from_bits, common::specs::Decimal::decimal, common::specs::Decimal::scaled))]
 fn saturated(x: Phase, p: MPa) -> Letter
     ensures { result ≡ saturated_letter x p.0 }
 {
