@@ -1,5 +1,5 @@
 -- Helps proofs only: a row of the code as a row of the table, and a boundary's number with no check. Assumes nothing: these are definitions.
-use Rattle.std.specs.Prelude.{ℕ, Bool, true, false, List, [], ◌∷◌, Option, None, Some, ◌≡◌, leb, ℤ, nat_abs, Float}
+use Rattle.std.specs.Prelude.{ℕ, Bool, true, false, List, [], ◌∷◌, ◌++◌, map, Option, None, Some, ◌≡◌, leb, ℤ, nat_abs, Float}
 use Rattle.std.specs.Float.{binary64}
 use Rattle.std.specs.Float.Ieee.{add, sub, mul}
 use Rattle.common.specs.Outcome.{check, or_nan, zero_f}
@@ -43,7 +43,7 @@ fifth_of None = []
 fifth_of (Some t) = term_of t ∷ []
 
 abbrev pub row_of : Row → paper.Row
-row_of r = row (argument_of r.ln) (term_of r.t1 ∷ term_of r.t2 ∷ term_of r.t3 ∷ term_of r.t4 ∷ fifth_of r.t5)
+row_of r = row (argument_of r.ln) (map term_of r.terms ++ fifth_of r.fifth)
 
 -- ---- the walk: a lost number is the result
 

@@ -1,7 +1,7 @@
 // The twelve boundaries: a temperature at a pressure. One walk serves every row, by powers of two kinds: by the rule, or bare, with no look at them, which is
 // quicker, and the same where no power is lost.
-// Kept: which kind is a flag that the calls below hand on. As a const parameter it leaves `by_row` out of line at a place that the compiler does not know: 14
-// percent more instructions for a boundary in ln p.
+// Kept: which kind is a flag that the calls hand on. As a const parameter (tried) it leaves `by_row` out of line, with a place that the compiler does not know: a
+// quarter more instructions for a boundary in ln p.
 ghost use Rattle.std.specs.Prelude.{◌≡◌};
 ghost use Rattle.common.specs.Answer.{paper};
 ghost use Rattle.boundaries.specs.Boundary.{tabled, row_at, form_of, boundary_rule};
@@ -37,14 +37,13 @@ fn worked(bare: bool, t: Term, x: f64) -> f64
 fn walk(row: Row, bare: bool, x: f64) -> f64
     ensures { result ≡ raw_sum bare (row_of row) x }
 {
-    let four = 0.0
-        + worked(bare, row.t1, x)
-        + worked(bare, row.t2, x)
-        + worked(bare, row.t3, x)
-        + worked(bare, row.t4, x);
-    match row.t5 {
-        None => four,
-        Some(t) => four + worked(bare, t, x),
+    let mut sum = 0.0;
+    for t in row.terms {
+        sum += worked(bare, t, x);
+    }
+    match row.fifth {
+        None => sum,
+        Some(t) => sum + worked(bare, t, x),
     }
 }
 

@@ -10,7 +10,8 @@ pub returns-then-usual : goal.returns-then-usual
 returns-then-usual c =
     let k = place_of c.args.k in
     let x = c.argument-x.result in
-    let x_is : x ≡ raw_argument (argument_in (row_at k)) c.args.p.0 = c.argument-x.ensures ∙ ap (λ (r : Row). raw_argument (argument_in r) c.args.p.0) c.row_at.ensures in
+    let x_is : x ≡ raw_argument (argument_in (row_at k)) c.args.p.0 =
+    c.argument-x.ensures ∙ ap (λ (r : Row). raw_argument (argument_in r) c.args.p.0) c.row_at.ensures in
     c.walk_at.ensures
     ∙ elim c.if-bare.branch [
       | then-bare w ↦ rw w.if-bare.true refl
