@@ -14,15 +14,13 @@ const TABLE: usize = 1040;
 pub fn reply_to(row: &[u8], tables: &[u8]) -> Reply
     ensures { result ≡ row_reply row.now tables.now }
 {
-    let at = TABLE * (byte_at(row, 0) as usize);
+    let at = TABLE * usize::from(byte_at(row, 0));
     let next = at + TABLE;
     if next > tables.len() {
         return refused(UNKNOWN);
     }
-    on_table(
-        sum_of(byte_at(row, 1)),
-        float_at(row, 8),
-        float_at(row, 16),
-        &tables[at..next],
-    )
+    match sum_of(byte_at(row, 1)) {
+        Some(sum) => on_table(sum, float_at(row, 8), float_at(row, 16), &tables[at..next]),
+        None => refused(UNKNOWN),
+    }
 }

@@ -10,8 +10,7 @@ use sums_by_number::{Sum, work};
 fn rows_in(table: &[u8], which: usize) -> usize
     ensures { (result ≡ rows_in table.now which) × (result ≤ 64) }
 {
-    let n = byte_at(table, which) as usize;
-    if n < 64 { n } else { 64 }
+    usize::from(byte_at(table, which)).min(64)
 }
 
 // The 64 whole numbers from a byte on.
@@ -20,10 +19,8 @@ fn wholes_from(table: &[u8], at: usize) -> [i32; 64]
     ensures { result ≡ wholes table.now at }
 {
     let mut column = [0i32; 64];
-    let mut k = 0;
-    while k < 64 {
+    for k in 0..64 {
         column[k] = int_at(table, at + 4 * k);
-        k += 1;
     }
     column
 }
@@ -34,10 +31,8 @@ fn floats_from(table: &[u8], at: usize) -> [f64; 64]
     ensures { result ≡ floats table.now at }
 {
     let mut column = [0.0; 64];
-    let mut k = 0;
-    while k < 64 {
+    for k in 0..64 {
         column[k] = float_at(table, at + 8 * k);
-        k += 1;
     }
     column
 }

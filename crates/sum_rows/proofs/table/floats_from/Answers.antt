@@ -1,7 +1,6 @@
 -- `sum_rows::table::floats_from` meets its contract: the next place is filled, and in the end all 64 are. Assumes nothing.
 use Rattle.std.proofs.Common.{ℕ, List, ◌+◌, ◌*◌, [], ◌∷◌, refl, ap, ◌∙◌}
 use native.Mathlib.Nat.{le_antisymm}
-use native.Mathlib.Omega.{arith}
 use borrow.Author.Rules.{rules}
 use Rattle.std.proofs.Math.ListN.{set, replicate, length-set}
 use Rattle.std.proofs.lemmas.List.Edits.{sets}
@@ -19,7 +18,6 @@ pub loop-k-preserved : goal.loop-k-preserved
 loop-k-preserved c =
     let l = c.loop-k in
     let f : ℕ → Float = λ i. float_in c.args.table.now (c.args.at + 8 * i) in record {
-      in_range = omega arith;
       same_length = simp length-set l.invariant.same_length;
       passed = ap (λ (x : Float). set l.column l.k x) c.float_at.ensures ∙ filled_more f _ l.column l.k l.invariant.passed;
     }
@@ -31,5 +29,5 @@ returns c =
     let f : ℕ → Float = λ i. float_in c.args.table.now (c.args.at + 8 * i) in
     let first : List Float = replicate 64 zero_f in
     l.invariant.passed
-    ∙ ap (λ (n : ℕ). sets first 0 (joined (λ i. f i ∷ []) n)) (le_antisymm l.invariant.in_range c.loop-k-test.false)
+    ∙ ap (λ (n : ℕ). sets first 0 (joined (λ i. f i ∷ []) n)) (le_antisymm l.auto.k-end c.loop-k-test.false)
     ∙ filled f first 64 refl

@@ -1,7 +1,6 @@
 -- `sum_rows::table::wholes_from` meets its contract: the next place is filled, and in the end all 64 are. Assumes nothing.
 use Rattle.std.proofs.Common.{ℕ, List, ◌+◌, ◌*◌, [], ◌∷◌, ℤ, pos, refl, ap, ◌∙◌}
 use native.Mathlib.Nat.{le_antisymm}
-use native.Mathlib.Omega.{arith}
 use borrow.Author.Rules.{rules}
 use Rattle.std.proofs.Math.ListN.{set, replicate, length-set}
 use Rattle.std.proofs.lemmas.List.Edits.{sets}
@@ -19,7 +18,6 @@ pub loop-k-preserved : goal.loop-k-preserved
 loop-k-preserved c =
     let l = c.loop-k in
     let f : ℕ → ℤ = λ i. int_in c.args.table.now (c.args.at + 4 * i) in record {
-      in_range = omega arith;
       same_length = simp length-set l.invariant.same_length;
       passed =
           ap (λ (x : ℤ). set l.column l.k x) (to_z-of_z w32 c.int_at.result (record { sfits = c.int_at.type_inv }) ∙ c.int_at.ensures)
@@ -32,5 +30,5 @@ returns c =
     let f : ℕ → ℤ = λ i. int_in c.args.table.now (c.args.at + 4 * i) in
     let first : List ℤ = replicate 64 (pos 0) in
     l.invariant.passed
-    ∙ ap (λ (n : ℕ). sets first 0 (joined (λ i. f i ∷ []) n)) (le_antisymm l.invariant.in_range c.loop-k-test.false)
+    ∙ ap (λ (n : ℕ). sets first 0 (joined (λ i. f i ∷ []) n)) (le_antisymm l.auto.k-end c.loop-k-test.false)
     ∙ filled f first 64 refl
