@@ -11,6 +11,7 @@ use origin::origin_pT;
 
 // The marks and the refusals so far of all rows. A processor need not wait here for one row's letter to begin with the next, and where
 // the densities are worked every letter is known.
+#[tactic(auto, using(crate::proofs::Rows::filled_none, crate::proofs::Rows::filled_more))]
 fn mark_rows(ps: &[f64], ts: &[f64], letters: &mut [u8], refusals: &mut [u8])
     requires { (length ts.now ≡ length ps.now) × (length letters.old ≡ length ps.now) × (length refusals.old ≡ length ps.now) }
     ensures letters_after { letters.new ≡ rows_by mark_in ps.now ts.now }
@@ -24,6 +25,7 @@ fn mark_rows(ps: &[f64], ts: &[f64], letters: &mut [u8], refusals: &mut [u8])
 }
 
 // Every row of columns of one length, from its marks.
+#[tactic(auto, using(crate::proofs::Rows::filled_none, crate::proofs::Rows::rows_long, crate::proofs::Rows::left_all))]
 fn fill_rows(ps: &[f64], ts: &[f64], letters: &mut [u8], densities: &mut [f64], refusals: &mut [u8])
     requires { (length ts.now ≡ length ps.now) × (length densities.old ≡ length ps.now) × (letters.old ≡ rows_by mark_in ps.now ts.now) × (refusals.old ≡ rows_by stop_in ps.now ts.now) }
     ensures letters_after { letters.new ≡ rows_by letter_in ps.now ts.now }
@@ -46,6 +48,7 @@ fn same_length(n: usize, a: usize, b: usize, c: usize, d: usize) -> bool
 
 // The columns, or refusal 7 and nothing written.
 // Kept: five columns side by side and no struct of them, since a caller in C lends each by itself (r3_columns).
+#[tactic(auto, unfolding(crate::specs::Columns::columns_rule))]
 pub fn columns(
     ps: &[f64],
     ts: &[f64],

@@ -10,19 +10,8 @@ use Rattle.column_row.specs.Row.{row_rule}
 use Rattle.column_run.specs.Columns.{letter_in, density_in, refusal_in}
 use Rattle.column_row.specs.TwoTurns.{mark_in, stop_in}
 use Rattle.column_row.proofs.TwoTurns.{row_is}
-use Rattle.column_run.proofs.Rows.{filled_none, filled_more, filled_all, left_all, left_less, rows_long}
+use Rattle.column_run.proofs.Rows.{filled_more, filled_all, left_less}
 use Rattle.column_run.proofs.run.fill_rows.Goals as goal
-
-pub loop-i-init : goal.loop-i-init
-loop-i-init c =
-    let q = c.requires in
-    record {
-      letters = filled_none letter_in 0 _ _ _ (rows_long mark_in 0 _ _ _ q.0 q.2);
-      densities = filled_none density_in nan _ _ _ q.1;
-      refusals = filled_none refusal_in 0 _ _ _ (rows_long stop_in 0 _ _ _ q.0 q.3);
-      marks = left_all mark_in 0 _ _ _ q.0 q.2;
-      stops = left_all stop_in 0 _ _ _ q.0 q.3;
-    }
 
 pub loop-i-preserved : goal.loop-i-preserved
 loop-i-preserved c =
