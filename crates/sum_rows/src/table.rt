@@ -4,6 +4,7 @@ ghost use Rattle.sum_rows.specs.Table.{rows_in, wholes, floats, table_reply};
 
 use buffer::{byte_at, float_at, int_at};
 use reply::Reply;
+use std::array;
 use sums_by_number::{Sum, work};
 
 // How many rows a column has: a table has room for 64.
@@ -18,11 +19,7 @@ fn wholes_from(table: &[u8], at: usize) -> [i32; 64]
     requires { at ≤ 1024 }
     ensures { result ≡ wholes table.now at }
 {
-    let mut column = [0i32; 64];
-    for k in 0..64 {
-        column[k] = int_at(table, at + 4 * k);
-    }
-    column
+    array::from_fn(|k| int_at(table, at + 4 * k))
 }
 
 // The 64 numbers from a byte on.
@@ -30,11 +27,7 @@ fn floats_from(table: &[u8], at: usize) -> [f64; 64]
     requires { at ≤ 1024 }
     ensures { result ≡ floats table.now at }
 {
-    let mut column = [0.0; 64];
-    for k in 0..64 {
-        column[k] = float_at(table, at + 8 * k);
-    }
-    column
+    array::from_fn(|k| float_at(table, at + 8 * k))
 }
 
 pub fn on_table(sum: Sum, vi: f64, vj: f64, table: &[u8]) -> Reply
