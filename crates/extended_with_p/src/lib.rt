@@ -1,5 +1,6 @@
 // The six further properties that work p, by the formulas of the Rust's region3_Td_ext.rs. They answer, since that p is range-tested at its place. The
 // checks of the box are the callers'.
+// Kept: T and d are two parameters of each call, as in the Rust, each with its unit.
 #![tactic(auto)]
 
 ghost use Rattle.std.specs.Prelude.{◌≡◌};

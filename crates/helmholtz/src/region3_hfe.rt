@@ -1,6 +1,7 @@
 // φ and its derivatives: R7-97(2012), equation 28 and table 32, by the sums over table 30. Here, in order: table 30, its three kinds of sums,
 // φ and each derivative by itself, and those that the properties need together by one joint sum. Each gives its number, or a NaN where any step
 // is not finite; each divisor is tested before it could hide such a step.
+// Kept: δ and τ are two parameters of each call, as in the Rust and in table 32.
 ghost use Rattle.common.specs.Outcome.{check};
 ghost use Rattle.common.specs.Number.{Number};
 ghost use Rattle.helmholtz.specs.Hfe.{slope, share, phi, phi_delta, phi_deltadelta, phi_tau, phi_tautau, phi_deltatau, joint_phi, joint_tau, joint_delta, four_delta, four_deltadelta, four_deltatau, four_tautau};

@@ -1,5 +1,6 @@
 // The properties from T and d: R7-97(2012), table 31. First the reduced variables, then the eight properties, each raw: its number, or a NaN
 // where a step of it is lost; cp and w come together. Last the p of a state, which is range-tested.
+// Kept: T and d are two parameters of each call, as in the Rust and in table 31, each with its unit.
 ghost use Rattle.std.specs.Prelude.{◌≡◌};
 ghost use Rattle.common.specs.Outcome.{check};
 ghost use Rattle.common.specs.Answer.{paper};
