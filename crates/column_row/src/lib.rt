@@ -3,8 +3,9 @@
 #![tactic(auto)]
 
 ghost use Rattle.std.specs.Prelude.{◌≡◌};
+ghost use Rattle.common.specs.Outcome.{refused};
 ghost use Rattle.common.specs.Answer.{paper};
-ghost use Rattle.column_row.specs.Row.{row_rule};
+ghost use Rattle.column_row.specs.Row.{line_in, row_rule};
 ghost use Rattle.column_row.specs.TwoTurns.{mark_of, of_mark, line_by};
 
 use common::{Kelvin, KgPerM3, MPa, Refusal, refusal_byte};
@@ -46,17 +47,25 @@ fn of_mark(m: u8) -> Origin
     Origin::Subregion(of_byte(m))
 }
 
+// A refused row.
+#[tactic(auto, unfolding(std::specs::Prelude::from_bits))]
+fn refused(k: u8) -> Line
+    ensures { result ≡ line_in (refused k) }
+{
+    Line {
+        letter: 0,
+        density: KgPerM3(0.0),
+        refusal: k,
+    }
+}
+
 // The row from its mark and its refusal's number, or 0.
-#[tactic(auto, unfolding(crate::specs::TwoTurns::line_by, std::specs::Prelude::from_bits))]
+#[tactic(auto, unfolding(crate::specs::TwoTurns::line_by))]
 pub fn line_of(m: u8, k: u8, p: MPa, t: Kelvin) -> Line
     ensures { result ≡ line_by m k p.0 t.0 }
 {
     if m == 0 {
-        return Line {
-            letter: 0,
-            density: KgPerM3(0.0),
-            refusal: k,
-        };
+        return refused(k);
     }
     match found_by(of_mark(m), p, t) {
         Ok(found) => Line {
@@ -64,11 +73,7 @@ pub fn line_of(m: u8, k: u8, p: MPa, t: Kelvin) -> Line
             density: found.density,
             refusal: 0,
         },
-        Err(k) => Line {
-            letter: 0,
-            density: KgPerM3(0.0),
-            refusal: k.into(),
-        },
+        Err(k) => refused(k.into()),
     }
 }
 
