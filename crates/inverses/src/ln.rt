@@ -48,6 +48,9 @@ fn exponent(k: u64) -> f64
     (k as i64 - 1074) as f64
 }
 
+// The 53 digits of 1.5.
+const ONE_AND_HALF: u64 = 0x18_0000_0000_0000;
+
 pub fn logarithm(x: f64) -> Result<f64, Refusal>
     ensures { paper result ≡ logarithm_rule x }
 {
@@ -58,7 +61,7 @@ pub fn logarithm(x: f64) -> Result<f64, Refusal>
         return Err(Refusal::Step);
     }
     let p = unpack(x);
-    let up: u64 = if p.d < 0x18_0000_0000_0000 { 0 } else { 1 };
+    let up: u64 = if p.d < ONE_AND_HALF { 0 } else { 1 };
     let m = f64::from_bits(0x3fe0_0000_0000_0000 + p.d - up * 0x10_0000_0000_0000);
     settle(ln_steps(m, exponent(p.e + up)))
 }

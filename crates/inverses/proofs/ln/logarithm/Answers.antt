@@ -14,7 +14,7 @@ use Rattle.rules.proofs.Fields.{no_nan_bits}
 use Rattle.inverses.proofs.Signs.{is_above, lost}
 use Rattle.inverses.proofs.Logs.{places_low, places_high, ln_at, ln_of_lem, refused_below}
 use Rattle.inverses.proofs.ln.logarithm.Goals as goal
-use Rattle.inverses.proofs.ln.logarithm.Goals.{else-p-lt6755399441055744, then-p-lt6755399441055744}
+use Rattle.inverses.proofs.ln.logarithm.Goals.{else-p-lt-ONE_AND_HALF, then-p-lt-ONE_AND_HALF}
 
 pub returns-then-not-is_finite : goal.returns-then-not-is_finite
 unfolding logarithm_rule
@@ -32,17 +32,17 @@ pub unpack-p-requires : goal.unpack-p-requires
 unpack-p-requires c = above_zero c.args.x c.if-not-is_finite.ensures c.if-x.false
 
 pub float_from_bits-m : goal.float_from_bits-m
-float_from_bits-m c = no_nan_bits (1022 * 2 ^ 52 + c.unpack-p.result.d - c.if-p-lt6755399441055744.up * 2 ^ 52) (omega (arith, c.unpack-p.ensures))
+float_from_bits-m c = no_nan_bits (1022 * 2 ^ 52 + c.unpack-p.result.d - c.if-p-lt-ONE_AND_HALF.up * 2 ^ 52) (omega (arith, c.unpack-p.ensures))
 
 pub returns : goal.returns
 returns c =
     let x = c.args.x in
     let p = c.unpack-p in
-    let up = c.if-p-lt6755399441055744.up in
+    let up = c.if-p-lt-ONE_AND_HALF.up in
     let placed : (up ≤ 1) × (places (in_units x) ≡ p.result.e + up) =
-    elim c.if-p-lt6755399441055744.branch [
-      | then-p-lt6755399441055744 w ↦ rw w.up-is (omega arith, places_low _ _ _ p.ensures w.if-p-lt6755399441055744.true)
-      | else-p-lt6755399441055744 w ↦ rw w.up-is (omega arith, places_high _ _ _ p.ensures w.if-p-lt6755399441055744.false)
+    elim c.if-p-lt-ONE_AND_HALF.branch [
+      | then-p-lt-ONE_AND_HALF w ↦ rw w.up-is (omega arith, places_low _ _ _ p.ensures w.if-p-lt-ONE_AND_HALF.true)
+      | else-p-lt-ONE_AND_HALF w ↦ rw w.up-is (omega arith, places_high _ _ _ p.ensures w.if-p-lt-ONE_AND_HALF.false)
     ] in
     c.settle.ensures
     ∙ ap check c.ln_steps.ensures
