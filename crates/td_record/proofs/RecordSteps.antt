@@ -1,32 +1,13 @@
 -- A record whose fields are worked with no check and tested once is the record with a check at each step.
 use mathlib.Core.Path.{◌≡◌, refl}
-use mathlib.Core.Bool.{true, cond}
 use lib.Ieee.{Float, nan, inf, fin}
-use Rattle.common.specs.Outcome.{Outcome, value, refused, finite, check, then}
-use Rattle.common.specs.Formula.{lost_or, Raw}
+use Rattle.common.specs.Outcome.{Outcome, check, then}
+use Rattle.common.specs.Formula.{Raw}
 use Rattle.common.specs.Number.{Number}
 use Rattle.properties.specs.Together.{Td2cp_w}
 use Rattle.properties.proofs.Together.{cp_number, w_number}
 use Rattle.td_record.specs.Steps.{record_with, record_after, record_steps}
 use Rattle.td_record.specs.declared.Pressure.{Pressure}
-
--- a is whole where x and what follows it are finite
-module _ {A : Type 0} (f : Float → Outcome A) (a : A) where
-  gate : (x rest : Float) → (finite x ≡ true → f x ≡ cond (finite rest) (value a) (refused 5)) → then (check x) f ≡ cond (finite (lost_or x rest)) (value a) (refused 5)
-  gate nan rest h = refl
-  gate (inf s) rest h = refl
-  gate (fin s m e) rest h = h refl
-
-  last : (x : Float) → f x ≡ value a → then (check x) f ≡ cond (finite x) (value a) (refused 5)
-  last nan h = refl
-  last (inf s) h = refl
-  last (fin s m e) h = h
-
-  pub before : {o : Outcome Float} {x : Float} → Raw o x → (rest : Float) → (finite x ≡ true → f x ≡ cond (finite rest) (value a) (refused 5)) → then o f ≡ cond (finite (lost_or x rest)) (value a) (refused 5)
-  before {x} w rest h = rw w.is (gate x rest h)
-
-  pub at_last : {o : Outcome Float} {x : Float} → Raw o x → f x ≡ value a → then o f ≡ cond (finite x) (value a) (refused 5)
-  at_last {x} w h = rw w.is (last x h)
 
 -- v is worked first
 pub steps_after : (t d v : Float) (source : Pressure) (o : Outcome Float) → Raw o v → then o (λ v. record_steps t d v source) ≡ record_steps t d v source
