@@ -1,6 +1,6 @@
 // Temperature and volume from (p,h) and (p,s): S03rev. The side is chosen once (`side_ph`, `side_s`), then T and v are worked on it: both with
 // the density for a record (`found_ph`, `found_ps`), or one of them for a call of its own.
-// Kept: the six calls are twins but for the equation, the pair and the test at the end, each a name of the Rust's; a function over closures would be no plainer.
+// Kept: the calls are twins but for the equation, the pair and the last test, each a name of the Rust's; one function over closures would be no plainer.
 ghost use Rattle.std.specs.Prelude.{◌≡◌};
 ghost use Rattle.common.specs.Outcome.{check};
 ghost use Rattle.common.specs.Answer.{paper};

@@ -31,7 +31,8 @@ same_run o x y l m p q =
       ap (λ (o : Outcome Unit × Lent). o.1.refusals) h,
     )
 
-pub columns_one : (κs : Lfts 5) (a : Dens κs own.run.columns.Kinds.ps) (d e : AtExit (ended_of 5 own.run.columns.Kinds.ps own.run.columns.Kinds.r) κs) (x y : (res_t own.run.columns.Kinds.r κs).Denot)
+pub columns_one : (κs : Lfts 5) (a : Dens κs own.run.columns.Kinds.ps) (d e : AtExit (ended_of 5 own.run.columns.Kinds.ps own.run.columns.Kinds.r) κs)
+    (x y : (res_t own.run.columns.Kinds.r κs).Denot)
     → own.run.columns.Reads.Post κs a x d → own.run.columns.Reads.Post κs a y e
     → (x ≡ y) × (d.1.1.0.now ≡ e.1.1.0.now) × (d.1.1.1.0.now ≡ e.1.1.1.0.now) × (d.1.1.1.1.0.now ≡ e.1.1.1.1.0.now)
 columns_one κs a d e x y p q = same_run _ x y _ _ p q
@@ -43,7 +44,8 @@ module _ (κs : Lfts 5) (a : Args columns_of.signature κs) where
       (paper x, lent d.1.1.0.now d.1.1.1.0.now d.1.1.1.1.0.now)
       ≡ columns_rule a.0.0.now a.1.0.0.now (lent a.1.1.0.now a.1.1.1.0.now a.1.1.1.1.0.now)
 
-  pub columns_of_says : {M : Type 1} {𝓤 : Ura M} (𝓛 : Logic 𝓤) (mem : Memory → SProp 𝓤) (run : Routine → Fun 𝓤) (x : Result Unit Refusal) (d : AtExit columns_of.ended κs)
+  pub columns_of_says : {M : Type 1} {𝓤 : Ura M} (𝓛 : Logic 𝓤) (mem : Memory → SProp 𝓤) (run : Routine → Fun 𝓤)
+      (x : Result Unit Refusal) (d : AtExit columns_of.ended κs)
       → ent 𝓤 ((columns_of.clauses 𝓛 mem run κs a).ensures tt x d) (fact 𝓤 (Says x d))
   columns_of_says {𝓤 = 𝓤} 𝓛 mem run x d = id⊢ 𝓤 _
 

@@ -13,7 +13,9 @@ use origin::origin_pT;
 // the densities are worked every letter is known.
 #[tactic(auto, using(crate::proofs::Rows::filled_none, crate::proofs::Rows::filled_more))]
 fn mark_rows(ps: &[f64], ts: &[f64], letters: &mut [u8], refusals: &mut [u8])
-    requires { (length ts.now ≡ length ps.now) × (length letters.old ≡ length ps.now) × (length refusals.old ≡ length ps.now) }
+    requires times_long { length ts.now ≡ length ps.now }
+    requires letters_long { length letters.old ≡ length ps.now }
+    requires refusals_long { length refusals.old ≡ length ps.now }
     ensures letters_after { letters.new ≡ rows_by mark_in ps.now ts.now }
     ensures refusals_after { refusals.new ≡ rows_by stop_in ps.now ts.now }
 {
@@ -27,7 +29,10 @@ fn mark_rows(ps: &[f64], ts: &[f64], letters: &mut [u8], refusals: &mut [u8])
 // Every row of columns of one length, from its marks.
 #[tactic(auto, using(crate::proofs::Rows::filled_none, crate::proofs::Rows::rows_long, crate::proofs::Rows::left_all))]
 fn fill_rows(ps: &[f64], ts: &[f64], letters: &mut [u8], densities: &mut [f64], refusals: &mut [u8])
-    requires { (length ts.now ≡ length ps.now) × (length densities.old ≡ length ps.now) × (letters.old ≡ rows_by mark_in ps.now ts.now) × (refusals.old ≡ rows_by stop_in ps.now ts.now) }
+    requires times_long { length ts.now ≡ length ps.now }
+    requires densities_long { length densities.old ≡ length ps.now }
+    requires letters_marked { letters.old ≡ rows_by mark_in ps.now ts.now }
+    requires refusals_marked { refusals.old ≡ rows_by stop_in ps.now ts.now }
     ensures letters_after { letters.new ≡ rows_by letter_in ps.now ts.now }
     ensures densities_after { densities.new ≡ rows_by density_in ps.now ts.now }
     ensures refusals_after { refusals.new ≡ rows_by refusal_in ps.now ts.now }

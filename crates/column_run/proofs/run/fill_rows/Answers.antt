@@ -36,7 +36,7 @@ loop-i-preserved c =
 pub returns : goal.returns
 returns c =
     let v = c.loop-i.invariant in
-    let e = c.requires.0 in
+    let e = c.requires.times_long in
     let o = c.loop-i-test.false in
     record {
       letters_after = filled_all letter_in 0 _ _ _ _ e o v.letters;

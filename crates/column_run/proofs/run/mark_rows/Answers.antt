@@ -6,6 +6,6 @@ use Rattle.column_run.proofs.run.mark_rows.Goals as goal
 pub returns : goal.returns
 returns c =
     let v = c.loop-k.invariant in
-    let e = c.requires.0 in
+    let e = c.requires.times_long in
     let o = c.loop-k-test.false in
     record { letters_after = filled_all mark_in 0 _ _ _ _ e o v.letters; refusals_after = filled_all stop_in 0 _ _ _ _ e o v.refusals }
