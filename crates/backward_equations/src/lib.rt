@@ -31,6 +31,7 @@ enum Equation {
 }
 
 // The form of an equation at x and y, with its numbers z, x*, a, y*, b.
+// Kept: no struct of the five, which would stand beside a kind: a form is written out with its numbers as it is printed.
 #[derive(Clone, Copy, Debug, PartialEq)]
 enum Form {
     // z times the sum at x / x* + a and y / y* - b

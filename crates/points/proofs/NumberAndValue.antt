@@ -193,5 +193,7 @@ pT2v_reg3_by_told κs a e x y p t = answer_told _ x y p (t ∙ ap told_float p)
 pub found_pT_by_told : ByTold calls.found_pT.Kinds.ps calls.found_pT.Kinds.r calls.found_pT.Reads.Post (λ κs x. told_state (paper x))
 found_pT_by_told κs a e x y p t = state_told _ x y p (t ∙ ap told_state p)
 
-pub pair_by_by_told : ByTold reader.PairTryFromU8.try_from.Kinds.ps reader.PairTryFromU8.try_from.Kinds.r reader.PairTryFromU8.try_from.Reads.Post (λ κs x. told_kind (paper_named x))
+pub pair_by_by_told :
+    ByTold reader.PairTryFromU8.try_from.Kinds.ps reader.PairTryFromU8.try_from.Kinds.r reader.PairTryFromU8.try_from.Reads.Post
+    (λ κs x. told_kind (paper_named x))
 pair_by_by_told κs a e x y p t = pair_told _ x y p (t ∙ ap told_kind p)

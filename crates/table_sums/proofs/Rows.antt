@@ -25,7 +25,8 @@ module _ (u : Row → Float) (s : Float) (rs : List (ℤ × ℤ × Float)) (k : 
   none_left h = rw (drop_of_length-le rs {i = k} h)
 
 -- the rows of one list, then those of another
-pub parts_added : (u : Row → Float) (s : Float) (xs ys : List (ℤ × ℤ × Float)) → raw_total u s (rows_in (xs ++ ys)) ≡ raw_total u (raw_total u s (rows_in xs)) (rows_in ys)
+pub parts_added : (u : Row → Float) (s : Float) (xs ys : List (ℤ × ℤ × Float)) →
+    raw_total u s (rows_in (xs ++ ys)) ≡ raw_total u (raw_total u s (rows_in xs)) (rows_in ys)
 unfolding raw_total
 parts_added u s [] ys = refl
 parts_added u s (r ∷ xs) ys = parts_added u (add binary64 s (u (row r.0 r.1 r.2))) xs ys

@@ -9,4 +9,8 @@ returns-then-usual-2 g c =
     (rw (c.UP_I.ensures, c.DOWN_I.ensures, c.UP_J.ensures, c.DOWN_J.ensures, c.rows.ensures.printed) at c.bare_sum.ensures) c.rows.ensures.covered
 
 pub returns-else-usual : goal.returns-else-usual
-returns-else-usual g c = rule_ends (rw (c.UP_I-else-usual.ensures, c.DOWN_I-else-usual.ensures, c.UP_J-else-usual.ensures, c.DOWN_J-else-usual.ensures, c.rows-else-usual.ensures.printed) at c.rule_sum.ensures) c.rows-else-usual.ensures.covered
+returns-else-usual g c =
+    rule_ends
+    (rw (c.UP_I-else-usual.ensures, c.DOWN_I-else-usual.ensures, c.UP_J-else-usual.ensures, c.DOWN_J-else-usual.ensures, c.rows-else-usual.ensures.printed)
+    at c.rule_sum.ensures)
+    c.rows-else-usual.ensures.covered
