@@ -36,6 +36,7 @@ fn check_asked(t: Kelvin, d: KgPerM3, y: f64) -> Result<(), Refusal>
 }
 
 // The p of the state has to be in its range as well: 4 otherwise.
+// Kept: three checks of one test, so that what is asked stands under its unit.
 pub fn check_p(t: Kelvin, d: KgPerM3, p: MPa) -> Result<(), Refusal>
     ensures { paper result ≡ check_p_rule t.0 d.0 p.0 }
 {

@@ -44,6 +44,7 @@ pub fn check_Ts(t: Kelvin, s: KJPerKgK) -> Result<(), Refusal>
 }
 
 // The T at p and v.
+// Kept: three calls by one search, since each is a name of the Rust with its own pair of units.
 pub fn pv2T_reg3(p: MPa, v: M3PerKg) -> Result<Proposal, Refusal>
     ensures { paper result ≡ pv2T_reg3_rule p.0 v.0 }
 {

@@ -175,6 +175,7 @@ fn rtsec(curve: Curve, x1: f64, x2: f64) -> Result<Proposal, Refusal>
 }
 
 // The T at which p is the asked one, at a density.
+// Kept: three calls of one search, so that each of the two start points and what is asked stands under its unit.
 pub fn rtsec_p(d: KgPerM3, p: MPa, t1: Kelvin, t2: Kelvin) -> Result<Proposal, Refusal>
     ensures { paper result ≡ proposal_rule (Isochore d p) t1.0 t2.0 }
 {
