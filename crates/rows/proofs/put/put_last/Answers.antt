@@ -6,11 +6,6 @@ use Rattle.text.proofs.Laws.{fitted, wrote_then, wrote_length, decimal_room}
 use Rattle.rows.specs.Lines.{last_line}
 use Rattle.rows.proofs.put.put_last.Goals as goal
 
-pub put_number-requires : goal.put_number-requires
-put_number-requires c =
-    let e = fitted 5 (omega arith) c.put.ensures.wrote in
-    omega (arith, e.ends, wrote_length e)
-
 pub put_number-requires-2 : goal.put_number-requires-2
 put_number-requires-2 c =
     let e = fitted 5 (omega arith) c.put.ensures.wrote in

@@ -1,12 +1,10 @@
 -- `rows::take::take_rows` meets its contract: each turn sets one row more of both columns. Assumes nothing.
 use Rattle.std.proofs.Common.{ℕ, List, ◌≡◌, ◌+◌, ◌*◌, ◌≤◌, length, refl, ap, ◌∙◌}
-use native.Mathlib.Nat.{le_antisymm}
 use native.Mathlib.Omega.{arith}
 use Rattle.std.proofs.Math.ListN.{set, length-set}
-use Rattle.std.proofs.lemmas.List.Edits.{sets}
 use Rattle.std.specs.Prelude.{Float}
 use borrow.Author.Tests.{le-leb}
-use Rattle.rows.specs.Lines.{p_at, t_at, p_column, t_column}
+use Rattle.rows.specs.Lines.{p_at, t_at}
 use Rattle.buffer.specs.Bytes.{joined, float_at, float_in}
 use Rattle.rows.proofs.Laws.{column_more}
 use Rattle.rows.proofs.take.take_rows.Goals as goal
@@ -31,12 +29,4 @@ loop-i-preserved c =
       ts_after =
           ap (λ (xs : List Float). set xs l.i c.float_at-in-loop-i.result) l.invariant.ts_after
           ∙ column_more c.args.ts.now (t_at s) l.i c.float_at-in-loop-i.result (c.float_at-in-loop-i.ensures ∙ float_in_lem s (16 * l.i + 8) (omega arith));
-    }
-
-pub returns : goal.returns
-returns c =
-    let l = c.loop-i in
-    let e : l.i ≡ c.args.n = le_antisymm l.auto.i-end c.loop-i-test.false in record {
-      ps_after = l.invariant.ps_after ∙ ap (λ (k : ℕ). sets c.args.ps.now 0 (p_column c.args.s.now k)) e;
-      ts_after = l.invariant.ts_after ∙ ap (λ (k : ℕ). sets c.args.ts.now 0 (t_column c.args.s.now k)) e;
     }
