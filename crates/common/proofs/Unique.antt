@@ -31,9 +31,6 @@ over_one κs a e x y p q = p ∙ sym q
 pub size_one : One 0 common.size.Kinds.ps common.size.Kinds.r common.size.Reads.Post
 size_one κs a e x y p q = p ∙ sym q
 
-pub least_one : One 0 common.least.Kinds.ps common.least.Kinds.r common.least.Reads.Post
-least_one κs a e x y p q = p ∙ sym q
-
 pub check_only_one : One 0 common.check_only.Kinds.ps common.check_only.Kinds.r common.check_only.Reads.Post
 check_only_one κs a e x y p q = same_result _ x y p q
 

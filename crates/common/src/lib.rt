@@ -3,7 +3,7 @@
 // specs/Property.antt.
 #![tactic(auto)]
 
-ghost use Rattle.std.specs.Prelude.{◌≡◌, min};
+ghost use Rattle.std.specs.Prelude.{◌≡◌};
 ghost use Rattle.common.specs.Outcome.{finite, check, or_nan, number_in};
 ghost use Rattle.common.specs.Formula.{size_of, raw_over};
 ghost use Rattle.common.specs.Answer.{number_of, paper};
@@ -12,27 +12,27 @@ ghost use Rattle.common.specs.Property.{property_numbers};
 ghost use Rattle.common.specs.Constant.{printed, p_range_from, p_range_to, t_range_from, t_range_to, d_range_from, d_range_to};
 
 // A pressure.
-#[derive(Clone, Copy)]
+#[derive(Clone, Copy, Debug, PartialEq)]
 pub struct MPa(pub f64);
 
 // A temperature.
-#[derive(Clone, Copy)]
+#[derive(Clone, Copy, Debug, PartialEq)]
 pub struct Kelvin(pub f64);
 
 // A density.
-#[derive(Clone, Copy)]
+#[derive(Clone, Copy, Debug, PartialEq)]
 pub struct KgPerM3(pub f64);
 
 // A volume.
-#[derive(Clone, Copy)]
+#[derive(Clone, Copy, Debug, PartialEq)]
 pub struct M3PerKg(pub f64);
 
 // An enthalpy.
-#[derive(Clone, Copy)]
+#[derive(Clone, Copy, Debug, PartialEq)]
 pub struct KJPerKg(pub f64);
 
 // An entropy.
-#[derive(Clone, Copy)]
+#[derive(Clone, Copy, Debug, PartialEq)]
 pub struct KJPerKgK(pub f64);
 
 // Why a call is refused. Each case has the number that a caller is told; `number_of` has them for the proofs.
@@ -58,7 +58,7 @@ impl From<Refusal> for u8 {
 }
 
 // An interval, both ends of which count as inside.
-#[derive(Clone, Copy, Debug)]
+#[derive(Clone, Copy, Debug, PartialEq)]
 pub struct Interval {
     pub from: f64,
     pub to: f64,
@@ -225,7 +225,7 @@ pub fn over(x: f64, y: f64) -> f64
     if is_finite(y) { x / y } else { y }
 }
 
-// x without its sign.
+// x without its sign. Kept: f64::abs answers 0 for -0, which stays as it is here.
 pub fn size(x: f64) -> f64
     ensures { result ≡ size_of x }
 {
@@ -233,13 +233,6 @@ pub fn size(x: f64) -> f64
         return -x;
     }
     x
-}
-
-// The smaller of two counts.
-pub fn least(a: usize, b: usize) -> usize
-    ensures { result ≡ min a b }
-{
-    if b < a { b } else { a }
 }
 
 // A step's number, or refusal 5.
