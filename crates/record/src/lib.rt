@@ -35,7 +35,7 @@ pub struct RecordAnswer {
 }
 
 // Where a volume comes from: a letter's equation, or the answer at the critical point, which has no letter.
-// Kept: an Option<Letter> would be no plainer, since its None says nothing of the critical point, and the other regions add origins of their own.
+// Kept: an Option<Letter> would be no plainer, since its None says nothing of the critical point.
 #[derive(Clone, Copy, Debug, PartialEq, Eq)]
 pub enum Origin {
     Subregion(Letter),
