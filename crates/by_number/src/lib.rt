@@ -8,7 +8,7 @@ mod property;
 
 pub use property::{Td_thermal_reg3, Td2cp_w_reg3};
 
-// What is asked of cp and w together: each a value or a refusal of its own.
+// What is asked of cp and w together: each a value or a refusal of its own. Kept: no one Result, since either may be refused without the other.
 #[derive(Clone, Copy)]
 pub struct CpW {
     pub cp: Result<f64, Refusal>,

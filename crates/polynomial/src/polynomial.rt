@@ -59,6 +59,7 @@ fn table_pair(
     settle_pair(raw_pair(a, s, t, vi, vj, table))
 }
 
+// Kept: apart from `settle_pair`, since each names the sums of its own struct in their order.
 fn settle_four(p: Four) -> Result<Four, Refusal>
     ensures { paper result ≡ four_of (check p.i) (check p.ii) (check p.ij) (check p.jj) }
 {

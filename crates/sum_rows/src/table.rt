@@ -22,7 +22,7 @@ fn wholes_from(table: &[u8], at: usize) -> [i32; 64]
     array::from_fn(|k| int_at(table, at + 4 * k))
 }
 
-// The 64 numbers from a byte on.
+// The 64 numbers from a byte on. Kept: one function for both would take a number's reader and its size, and say no more.
 fn floats_from(table: &[u8], at: usize) -> [f64; 64]
     requires { at ≤ 1024 }
     ensures { result ≡ floats table.now at }

@@ -19,6 +19,7 @@ pub fn two_numbers(a: Result<Pair, Refusal>) -> Reply
     }
 }
 
+// Kept: apart from `two_numbers`, since each names the numbers of its own struct in their order.
 pub fn four_numbers(a: Result<Four, Refusal>) -> Reply
     ensures { result ≡ four_reply (paper a) }
 {

@@ -76,7 +76,7 @@ fn at_Td(t: Kelvin, d: KgPerM3) -> Result<Record, Refusal>
     at_state(t, d, M3PerKg(raw_v(t, d)), Pressure::Worked)
 }
 
-// A record in the place of the caller's own.
+// A record in the place of the caller's own. Kept: a match, since the answer is no Result (the caller's record comes back zeroed, decision 28).
 fn told(given: Record, r: Result<Record, Refusal>) -> RecordAnswer
     ensures { paper_record result ≡ report (paper r) }
 {
