@@ -9,6 +9,7 @@ ghost use Rattle.algo.specs.Raw.{gate};
 use common::is_finite;
 
 // How often a power of a table's term is differentiated by its base.
+// Kept: this and `Share` are kinds and no closures: the definitions choose by them too, and each law is stated once over all of them.
 #[derive(Clone, Copy, Debug, PartialEq, Eq)]
 pub enum Order {
     Zero,
@@ -30,6 +31,7 @@ pub enum Share {
 }
 
 // The number x of finite vi and vj, or a NaN.
+// Kept: vi and vj are two parameters of each sum, as in the Rust.
 pub fn gated(vi: f64, vj: f64, x: f64) -> f64
     ensures { result ≡ or_nan (gate vi vj x) }
 {

@@ -1,4 +1,5 @@
 // Pressure from (h,s): S04rev.
+// Kept: alike to the calls of region3_Tv_phps, for the reason that stands there.
 ghost use Rattle.std.specs.Prelude.{◌≡◌};
 ghost use Rattle.common.specs.Answer.{paper};
 ghost use Rattle.backward.specs.Backward.{hs2p_reg3_rule};

@@ -40,6 +40,7 @@ fn p2t_steps(p: f64) -> f64
     N4 + raw_root((p - N5) / N3)
 }
 
+// Kept: this and the next, and the two of r4, are alike: each is a name of the Rust's, with its own unit, range and equation.
 // The border's pressure in MPa.
 pub fn B23_T2p(t: Kelvin) -> Result<f64, Refusal>
     ensures { paper result ≡ B23_T2p_rule t.0 }

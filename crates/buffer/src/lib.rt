@@ -58,6 +58,7 @@ pub fn float_at(s: &[u8], at: usize) -> f64
 }
 
 // Bytes from an index on, where all of them have room.
+// Kept: an index here and below: a reply's numbers have fixed places, and room for a part of one is left as it is.
 pub fn put_bytes(out: &mut [u8], at: usize, bytes: &[u8])
     ensures { out.new ≡ placed out.old at bytes.now }
 {

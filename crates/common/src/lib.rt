@@ -321,7 +321,7 @@ pub fn in_d(d: KgPerM3) -> bool
     D_RANGE.contains(d.0)
 }
 
-// The checks of the five pairs.
+// The checks of the five pairs. Kept: five of one line, so that each argument stands under its unit.
 pub fn check_Td(t: Kelvin, d: KgPerM3) -> Result<(), Refusal>
     ensures { paper result ≡ Td_box t.0 d.0 }
 {

@@ -11,6 +11,7 @@ use record::Record;
 use reply::{Reply, letter_reply, number_reply, record_reply};
 use volume_at::pT2v_reg3;
 
+// Kept: a match and no table of functions, since the entries take their arguments under different units.
 #[tactic(auto, unfolding(crate::specs::Entries::reply_rule))]
 pub fn answer(entry: Entry, n: i32, a: f64, b: f64) -> Reply
     ensures { result ≡ reply_rule entry n a b }

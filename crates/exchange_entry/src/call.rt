@@ -61,6 +61,7 @@ pub fn answer(given: Record, s: &[u8]) -> ExchangeAnswer
 }
 
 // The number of a verdict, 0 where it is accepted.
+// Kept: beside exchange_writer's `write_number` and common's `refusal_byte`: each speaks by its own refusals' definition.
 pub fn verdict_number(v: Result<Pair, ExchangeRefusal>) -> u8
     ensures { result ≡ verdict_number v }
 {

@@ -42,6 +42,7 @@ pub fn read(s: &[u8]) -> Result<Asked, ReadRefusal>
 {
     let mut rest = s;
     let mut seen = Seen::Nothing;
+    // Kept: a while, since each field is as long as it says.
     while !rest.is_empty() {
         (seen, rest) = step(rest, seen)?;
     }

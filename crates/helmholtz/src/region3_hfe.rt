@@ -118,6 +118,7 @@ fn four(delta: f64, tau: f64) -> Slopes
     }
 }
 
+// Kept: a function of one line for each derivative, by the Rust's names.
 pub fn phi_reg3(delta: f64, tau: f64) -> f64
     ensures { Number (phi (check delta) (check tau)) result }
 {

@@ -40,6 +40,7 @@ impl Digits {
     fn by_halves(self) -> u64
         ensures { Near (self.d * 2 ^ 52) result }
     {
+        // Kept: a while, since an interval is halved and no index counted.
         let mut low: u64 = 0x10_0000_0000_0000;
         let mut up: u64 = 0x20_0000_0000_0000;
         while low < up {

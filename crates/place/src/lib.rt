@@ -49,6 +49,7 @@ fn temperatures(p: MPa) -> Result<Starts, Refusal>
 }
 
 // The start points, then the search.
+// Kept: here and below a match over the closed kind of curves (secant).
 fn proposed(curve: Curve) -> Result<Proposal, Refusal>
     ensures { paper result ≡ proposed_for curve }
 {

@@ -74,6 +74,7 @@ fn t_steps(p: f64) -> f64
     0.5 * (N10 + d - raw_root(square))
 }
 
+// Kept: this and the next are alike, and as the border's two: each is a name of the Rust's, with its own unit, range and equation.
 // The saturation pressure in MPa.
 pub fn p_saturation(t: Kelvin) -> Result<f64, Refusal>
     ensures { paper result ≡ p_saturation_rule t.0 }

@@ -12,6 +12,7 @@ use volume_at::found_pT;
 
 // The record of a state whose T, v and d were found, or refused.
 // Kept: a match and no `?`, here and below, since the caller's record goes in by value and comes back zeroed beside a refusal.
+// Kept: (p,h) and (p,s) alike, each a name of the Rust's with its own pair of units.
 fn record_of(given: Record, found: Result<Tvd, Refusal>, pressure: Pressure) -> RecordAnswer
     ensures { paper_record result ≡ report (record_of (paper found) pressure) }
 {

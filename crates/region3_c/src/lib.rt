@@ -4,6 +4,8 @@
 // cp and w together, the letter, the five records, what a search finds and the records there, the columns, the exchange record.
 #![tactic(auto)]
 
+// Kept: a function for each call, since the C interface needs its name and its parameters.
+
 mod exported;
 
 ghost use Rattle.std.specs.Prelude.{◌≡◌};

@@ -35,6 +35,7 @@ pub fn read_until_full<R: Read>(
     ensures full { result.stop ≡ Stop.Full → result.have ≡ length bytes.new }
     ensures ended { result.stop ≡ Stop.Ended → IsAtEnd (R.remaining input.new) }
 {
+    // Kept: a while, since each read gives as many bytes as it likes.
     let mut have = 0;
     while have < bytes.len() {
         match input.read(&mut bytes[have..]) {

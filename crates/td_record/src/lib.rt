@@ -14,6 +14,7 @@ use properties::{RawCpW, lost_or, raw_cp_w, raw_cv, raw_h, raw_s, raw_u, raw_v, 
 use record::{Record, RecordAnswer, refuse};
 
 // Where a record's p comes from: worked from T and d and range-tested, or found before.
+// Kept: no Option<MPa>, whose None would not say that p is worked then.
 #[derive(Clone, Copy)]
 pub enum Pressure {
     Worked,

@@ -28,6 +28,7 @@ pub fn found_pT(p: MPa, t: Kelvin) -> Result<State, Refusal>
 }
 
 // The same with no box and no border.
+// Kept: `found_pT` and `pT2v_at` are of this form: each has its own first or last step, and handing it over as a closure would be no plainer.
 #[tactic(auto, unfolding(crate::specs::Volumes::state_at))]
 fn found_at(p: MPa, t: Kelvin) -> Result<State, Refusal>
     ensures { paper result ≡ state_at p.0 t.0 }
