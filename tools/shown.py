@@ -60,7 +60,7 @@ def owners(text):
             name = re.match(r"\w*", line[CONST.match(line).end():])[0]
             state = "const"
         found.append((("body" if state == "line" else state), name) if state else ("", ""))
-        if state == "line" or state == "const" and line.endswith(";"):
+        if state == "line" or state == "const" and line.endswith(";") or state == "head" and line.endswith("};"):
             state = ""
         elif state == "head" and (line == indent + "{" or line.endswith("{") and (starts or line.startswith(indent + ")"))):
             state = "body"
