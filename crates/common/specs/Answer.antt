@@ -1,6 +1,7 @@
--- To believe: the paper's number of each refusal, and what an answer says. Every answer of the library is a Result with a refusal for its error; `paper` takes it to
--- an `Outcome`, and a contract says `paper result ≡ rule arguments`. `number_and_value` (Outcome) is the number and value of it that the exported calls and the
--- stored replies hold. Assumes nothing: these are definitions.
+-- To believe: the paper's number of each refusal, and what an answer says. An answer is a Result whose error is a Refusal; `paper` takes it to an `Outcome`, and a
+-- contract says `paper result ≡ rule arguments`. A record's answer has a reader of its own (record, search, exchange_entry), and so have answers that are refused for
+-- other reasons (exchange_record, exchange_writer). `number_and_value` (Outcome) is the number and value of it that the exported calls and the stored replies hold.
+-- Assumes nothing: these are definitions.
 use Rattle.std.specs.Prelude.{ℕ, Result, Ok, Err}
 use Rattle.common.specs.Outcome.{Outcome, value, refused}
 use Rattle.common.specs.declared.Refusal.{Refusal}
