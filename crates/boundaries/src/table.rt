@@ -18,6 +18,7 @@ pub struct Row {
 
 // A row's place in the table. It is no row, which would be handed over by address, so that the compiler knows the row wherever one is asked for, and its
 // constants go there; other crates ask by a boundary's name.
+// Kept: `Boundary` without 3ef, which has no row: so no walk asks whether there is one.
 #[derive(Clone, Copy, Debug, PartialEq, Eq)]
 pub enum Place {
     Ab,

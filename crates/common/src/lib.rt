@@ -1,4 +1,4 @@
-// What every layer shares: the units, the refusals, the answer for one number, the ranges and the constants.
+// What every layer shares: the units, the refusals and what an answer says, the ranges and the constants.
 // What each answer means is in specs/Answer.antt, the ranges in specs/Range.antt, the constants in specs/Constant.antt, the property numbers in
 // specs/Property.antt.
 #![tactic(auto)]
@@ -57,7 +57,7 @@ impl From<Refusal> for u8 {
     }
 }
 
-// An interval, both ends of which count as inside.
+// An interval, both ends of which count as inside. Kept: std's RangeInclusive does not copy, and its ends are no fields of a constant.
 #[derive(Clone, Copy, Debug, PartialEq)]
 pub struct Interval {
     pub from: f64,
@@ -124,6 +124,7 @@ pub const SC_WATER: f64 = 4.41202148223476;
 pub const TT: f64 = 273.16;
 
 // common/property_id.rs: the 25 numbers of the properties at a (T,d).
+// Kept: whole numbers, which are the Rust's and the C interface's.
 pub const OP: i32 = 0;
 
 pub const OV: i32 = 3;
@@ -212,6 +213,7 @@ pub fn property_numbers() -> [i32; 25]
     ]
 }
 
+// std's method under the word by which the definitions speak.
 pub fn is_finite(x: f64) -> bool
     ensures { result ≡ finite x }
 {
@@ -225,7 +227,7 @@ pub fn over(x: f64, y: f64) -> f64
     if is_finite(y) { x / y } else { y }
 }
 
-// x without its sign. Kept: f64::abs answers 0 for -0, which stays as it is here.
+// x without its sign. Kept: the definition (|x| of a search and of a check) leaves -0 as it is, and f64::abs answers 0 for it.
 pub fn size(x: f64) -> f64
     ensures { result ≡ size_of x }
 {
@@ -302,7 +304,7 @@ pub fn check_pair(x: f64, x_range: Interval, y: f64, y_range: Interval) -> Resul
     Ok(())
 }
 
-// A p, T or d of the state is in its range: number 4 otherwise.
+// Whether a p, T or d is in its range.
 pub fn in_p(p: MPa) -> bool
     ensures { result ≡ within p_range_from p_range_to p.0 }
 {

@@ -88,7 +88,7 @@ impl TryFrom<u8> for Letter {
     }
 }
 
-// The letter of a byte, and a for a byte that is none's.
+// The letter of a byte, and a for a byte that is none's. Kept beside `try_from`: it cannot fail, and the column run asks it of bytes that it wrote itself.
 #[tactic(auto, using(crate::proofs::Bytes::decoded))]
 pub fn of_byte(b: u8) -> Letter
     ensures { result ≡ of_byte b }
