@@ -9,7 +9,7 @@ ghost use Rattle.helmholtz.specs.Hfe.{slope, share, phi, phi_delta, phi_deltadel
 use algo::{Order, Share, gated};
 use common::{finite_or_nan, over};
 use inverses::raw_logarithm;
-use joint::{Pair, finished, four_sums, joint_sums};
+use joint::{Four, Pair, finished, four_sums, joint_sums};
 use powers::fill_powers;
 use slopes::{Columns, slope_sum};
 
@@ -74,6 +74,8 @@ const TABLE: Columns = Columns {
     ns: &NS,
 };
 
+// Kept: `sum`, `pair` and `four` have the form of column_sums' `raw_sum`, `raw_pair` and `raw_four`: the reach of table 30's powers is constant here,
+// and of a caller's columns it is looked for there; a reach handed over would be two more arguments of each call and no fewer lines.
 // A sum by itself, its terms differentiated so often by δ and by τ. The exponents go from 0 to 11 and to 26, and 2 down where a term is differentiated twice.
 fn sum(a: Order, b: Order, delta: f64, tau: f64) -> f64
     ensures { Number (slope a b (check delta) (check tau)) result }
@@ -101,20 +103,20 @@ fn pair(s: Share, t: Share, delta: f64, tau: f64) -> Pair
 }
 
 // Four sums that share their terms.
-fn four(delta: f64, tau: f64) -> Slopes
-    ensures { Number (share Share.I (check delta) (check tau)) result.delta × Number (share Share.Ii (check delta) (check tau)) result.deltadelta
-        × Number (share Share.Ij (check delta) (check tau)) result.deltatau × Number (share Share.Jj (check delta) (check tau)) result.tautau }
+fn four(delta: f64, tau: f64) -> Four
+    ensures { Number (share Share.I (check delta) (check tau)) result.i × Number (share Share.Ii (check delta) (check tau)) result.ii
+        × Number (share Share.Ij (check delta) (check tau)) result.ij × Number (share Share.Jj (check delta) (check tau)) result.jj }
 {
     let mut wi = [0.0; 129];
     let mut wj = [0.0; 129];
     fill_powers(delta, 11, 0, &mut wi);
     fill_powers(tau, 26, 0, &mut wj);
     let p = four_sums(&wi, &wj, TABLE);
-    Slopes {
-        delta: finished(Share::I, delta, tau, p.i),
-        deltadelta: finished(Share::Ii, delta, tau, p.ii),
-        deltatau: finished(Share::Ij, delta, tau, p.ij),
-        tautau: finished(Share::Jj, delta, tau, p.jj),
+    Four {
+        i: finished(Share::I, delta, tau, p.i),
+        ii: finished(Share::Ii, delta, tau, p.ii),
+        ij: finished(Share::Ij, delta, tau, p.ij),
+        jj: finished(Share::Jj, delta, tau, p.jj),
     }
 }
 
@@ -204,9 +206,9 @@ pub fn polys_i_ii_ij_jj_powi_reg3(delta: f64, tau: f64) -> Slopes
 {
     let joint = four(delta, tau);
     Slopes {
-        delta: finite_or_nan(over(N1, delta) + joint.delta),
-        deltadelta: finite_or_nan(over(over(-N1, delta), delta) + joint.deltadelta),
-        deltatau: joint.deltatau,
-        tautau: joint.tautau,
+        delta: finite_or_nan(over(N1, delta) + joint.i),
+        deltadelta: finite_or_nan(over(over(-N1, delta), delta) + joint.ii),
+        deltatau: joint.ij,
+        tautau: joint.jj,
     }
 }
