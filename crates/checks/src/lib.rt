@@ -1,6 +1,6 @@
 // Whether a state at T and d has an asked p, h or s: the property is worked there, whoever proposed the state, and its difference from the asked
 // one, rounded, may be 1e-6 in the property's unit at most. 15 otherwise.
-#![tactic(auto)]
+#![tactic(auto, using(common::proofs::Calls::passed_on, common::proofs::Calls::went_in))]
 
 ghost use Rattle.std.specs.Prelude.{◌≡◌};
 ghost use Rattle.common.specs.Answer.{paper};
@@ -13,6 +13,7 @@ use properties::{raw_h, raw_s, state_p};
 const NEAR: f64 = 0.000001;
 
 // The property that was worked, held to the asked y by their rounded difference.
+#[tactic(auto, unfolding(crate::specs::Checks::held_to, std::specs::Prelude::from_bits, common::specs::Decimal::decimal, common::specs::Decimal::scaled))]
 fn held(worked: Result<f64, Refusal>, y: f64) -> Result<(), Refusal>
     ensures { paper result ≡ held_to y (paper worked) }
 {
@@ -37,6 +38,7 @@ fn check_asked(t: Kelvin, d: KgPerM3, y: f64) -> Result<(), Refusal>
 
 // The p of the state has to be in its range as well: 4 otherwise.
 // Kept: three checks of one test, so that what is asked stands under its unit.
+#[tactic(auto, unfolding(crate::specs::Checks::check_p_rule))]
 pub fn check_p(t: Kelvin, d: KgPerM3, p: MPa) -> Result<(), Refusal>
     ensures { paper result ≡ check_p_rule t.0 d.0 p.0 }
 {
@@ -44,6 +46,7 @@ pub fn check_p(t: Kelvin, d: KgPerM3, p: MPa) -> Result<(), Refusal>
     held(state_p(t, d), p.0)
 }
 
+#[tactic(auto, unfolding(crate::specs::Checks::check_h_rule))]
 pub fn check_h(t: Kelvin, d: KgPerM3, h: KJPerKg) -> Result<(), Refusal>
     ensures { paper result ≡ check_h_rule t.0 d.0 h.0 }
 {
@@ -51,6 +54,7 @@ pub fn check_h(t: Kelvin, d: KgPerM3, h: KJPerKg) -> Result<(), Refusal>
     held(settle(raw_h(t, d)), h.0)
 }
 
+#[tactic(auto, unfolding(crate::specs::Checks::check_s_rule))]
 pub fn check_s(t: Kelvin, d: KgPerM3, s: KJPerKgK) -> Result<(), Refusal>
     ensures { paper result ≡ check_s_rule t.0 d.0 s.0 }
 {
