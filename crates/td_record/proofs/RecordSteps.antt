@@ -1,9 +1,10 @@
 -- A record whose fields are worked with no check and tested once is the record with a check at each step.
-use mathlib.Core.Path.{◌≡◌, refl}
+use mathlib.Core.Path.{◌≡◌, refl, sym}
 use lib.Ieee.{Float, nan, inf, fin}
-use Rattle.common.specs.Outcome.{Outcome, check, then}
+use Rattle.common.specs.Outcome.{Outcome, value, check, then}
 use Rattle.common.specs.Formula.{Raw}
 use Rattle.common.specs.Number.{Number}
+use Rattle.common.proofs.Calls.{no_value}
 use Rattle.properties.specs.Together.{Td2cp_w}
 use Rattle.properties.proofs.Together.{cp_number, w_number}
 use Rattle.td_record.specs.Steps.{record_with, record_after, record_steps}
@@ -23,3 +24,9 @@ steps_after t d v source o w = rw w.is (twice v)
 pub record_with_lem : (t d v p : Float) {cp w : Float} → Number (Td2cp_w (check t) (check d)).cp cp → Number (Td2cp_w (check t) (check d)).w w → record_after t d v p ≡ record_with t d v p (check cp) (check w)
 unfolding record_after
 record_with_lem t d v p x y = rw ((cp_number t d x).raw.is, (w_number t d y).raw.is)
+
+-- a number that was accepted is the number that was checked
+pub checked : (x y : Float) → value y ≡ check x → value x ≡ check x
+checked nan y e = absurd (no_value (sym e))
+checked (inf s) y e = absurd (no_value (sym e))
+checked (fin s m k) y e = refl

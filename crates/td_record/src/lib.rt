@@ -49,6 +49,7 @@ fn worked_fields(t: Kelvin, d: KgPerM3, v: M3PerKg, p: MPa, both: RawCpW) -> Rec
 }
 
 // The record, or 5 where one of its numbers after p is lost.
+// Kept: nested, in the order of the steps: a loop over an array of the six would be as long, with an invariant beside it.
 fn completed(r: Record) -> Result<Record, Refusal>
     ensures { paper result ≡ complete r }
 {
@@ -60,13 +61,14 @@ fn completed(r: Record) -> Result<Record, Refusal>
 }
 
 // The record of a state that is known by T, d and v: (p,T), (p,h) and (p,s) find v and have p worked, (h,s) finds p too.
+// Kept: T, d and v side by side, each under its unit, by the Rust's names: a struct of the three would be made for one call and taken apart in it.
 #[tactic(auto, unfolding(crate::specs::Steps::record_steps))]
 fn at_state(t: Kelvin, d: KgPerM3, v: M3PerKg, pressure: Pressure) -> Result<Record, Refusal>
     ensures { paper result ≡ record_steps t.0 d.0 v.0 pressure }
 {
-    let v = settle(v.0)?;
+    settle(v.0)?;
     let p = pressure_of(t, d, pressure)?;
-    completed(worked_fields(t, d, M3PerKg(v), MPa(p), raw_cp_w(t, d)))
+    completed(worked_fields(t, d, v, MPa(p), raw_cp_w(t, d)))
 }
 
 #[tactic(auto, unfolding(crate::specs::Steps::record_rule))]
