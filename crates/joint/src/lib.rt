@@ -37,6 +37,7 @@ fn one_less(k: i32) -> f64
 }
 
 // What the item x of a row adds to a sum.
+// Kept: this and `divide` match over the closed kind `Share`, by which the definitions `raw_weigh` and `raw_divided` choose too (the reason stands at it).
 fn weigh(s: Share, i: i32, j: i32, x: f64) -> f64
     ensures { result ≡ raw_weigh s i j x }
 {
