@@ -10,7 +10,7 @@ use crate::{Fate, Known, ReadRefusal, Seen};
 fn known(tag: u8) -> bool
     ensures { result ≡ (ltb 0 tag && leb tag 5) }
 {
-    0 < tag && tag <= 5
+    (1..=5).contains(&tag)
 }
 
 #[tactic(auto, unfolding(crate::specs::Grammar::fate_of))]
@@ -44,7 +44,7 @@ fn word_of(b: &[u8]) -> u64
     requires { length b.now ≡ 8 }
     ensures { result ≡ word b.now }
 {
-    u64::from_be_bytes([b[0], b[1], b[2], b[3], b[4], b[5], b[6], b[7]])
+    u64::from_be_bytes(<[u8; 8]>::try_from(b).unwrap())
 }
 
 // The first field is skipped, taken, or stops the reader: what was seen with it, and the bytes after it. Its length is held against the bytes that are left

@@ -77,6 +77,7 @@ impl From<ReadRefusal> for u8 {
 }
 
 // A known field: its tag, and the bits of its number.
+// Kept: a tag is a number and no enum, as docs/SCOPE and the grammar in specs have it: any byte may stand there, and the order is that of numbers.
 #[derive(Clone, Copy, Debug, PartialEq, Eq)]
 pub struct Known {
     pub tag: u8,
