@@ -16,6 +16,7 @@ pub enum Stop {
 }
 
 // What reading came to: how many bytes there are, and why no more.
+// Kept: no Result, since the bytes before a failed read are still told; and no error, since its reason is said where the read fails.
 #[derive(Clone, Copy, Debug)]
 pub struct Reading {
     pub have: usize,
