@@ -14,7 +14,7 @@ use put::{put_last, put_lines};
 use take::take_rows;
 
 // What a page is worked in: the columns of its rows, and its lines.
-// Kept: arrays of fixed size with a count beside them, since the program takes no heap (docs/SCOPE.md).
+// Kept: arrays of fixed size with a count beside them: a rule of the project, fixed memory.
 #[derive(Drop)]
 pub struct Room {
     pub ps: [f64; 512],
