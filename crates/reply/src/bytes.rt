@@ -22,6 +22,7 @@ impl From<Reply> for [u8; 88] {
 }
 
 // The bytes of a reply from an index on, where all of them lie in the page.
+// Kept: bytes with an index, and no Vec that they are pushed to: a reply has fixed bytes in a page of fixed memory.
 pub fn put_reply(out: &mut [u8], at: usize, r: Reply)
     ensures { out.new ≡ placed out.old at (reply_bytes r) }
 {
