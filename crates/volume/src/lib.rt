@@ -11,7 +11,7 @@ pub use by_origin::{found_by, volume_from};
 
 // A volume equation with its reducing volume, pressure and temperature and its shifts: v*, p*, T*, a, b of table 4.
 // Kept: the case is the outer form and holds a row of the printed table; a struct of five beside a kind would part what the page has in one row.
-#[derive(Clone, Copy)]
+#[derive(Clone, Copy, Debug, PartialEq)]
 enum Equation {
     // v / v* is the sum at p / p* - a and T / T* - b
     Plain(f64, f64, f64, f64, f64),
@@ -28,7 +28,7 @@ enum Equation {
 }
 
 // What (p,T) finds: the origin of the volume, the volume and the density.
-#[derive(Clone, Copy)]
+#[derive(Clone, Copy, Debug, PartialEq)]
 pub struct State {
     pub origin: Origin,
     pub volume: M3PerKg,

@@ -47,6 +47,7 @@ pub fn equation(l: Letter) -> Equation
 }
 
 // The volume by an equation, with the sum of the letter's table.
+// Kept: a match over the closed kind of equations, by which the definition of the same name chooses too; closures would part an equation from its numbers.
 pub fn volume_by(e: Equation, l: Letter, p: f64, t: f64) -> f64
     ensures { check result ≡ volume_by e (summed l) p t }
 {
