@@ -1,7 +1,7 @@
 // The secant search of algo/root.rs, `rtsec`: the place on a curve at which the property has the asked value. What the Rust takes as a function is
 // the curve here. A place is a T or a d by the curve, and a bare number inside this file; who asks gives the two start points under their unit. The order of
 // the steps is in specs/Secant.antt; a step that is lost ends the search with 5.
-#![tactic(auto)]
+#![tactic(auto, using(common::proofs::Calls::passed_on, common::proofs::Calls::went_in))]
 
 ghost use Rattle.std.specs.Prelude.{◌≡◌};
 ghost use Rattle.std.specs.Float.Ieee.{lt};
@@ -14,8 +14,8 @@ use common::{KJPerKg, KJPerKgK, Kelvin, KgPerM3, MPa, Refusal, settle, size};
 use properties::{raw_h, raw_p, raw_s};
 
 // A property along the one of T and d that is searched, at the other, and what is asked of it.
-// Kept: a closed kind and no `impl Fn`, a rule of the project: what the Rust takes as a function is a choice by kind (docs/SCOPE.md).
-#[derive(Clone, Copy)]
+// Kept: a closed kind and no `impl Fn`, a rule of the project: what the Rust takes as a function is a choice by kind (decision 39).
+#[derive(Clone, Copy, Debug, PartialEq)]
 pub enum Curve {
     // p over T, at a density
     Isochore(KgPerM3, MPa),
@@ -27,7 +27,7 @@ pub enum Curve {
 
 // The last two places, the older one first, each with what is missing there of the asked value; and the last step.
 // Kept: five numbers and no pair of places, since they are the Rust's variables.
-#[derive(Clone, Copy, Debug)]
+#[derive(Clone, Copy, Debug, PartialEq)]
 pub struct Secant {
     pub xl: f64,
     pub fl: f64,
@@ -37,7 +37,7 @@ pub struct Secant {
 }
 
 // The place that the search proposes, in K or kg/m3, and how many trials it made.
-#[derive(Clone, Copy, Debug)]
+#[derive(Clone, Copy, Debug, PartialEq)]
 pub struct Proposal {
     pub place: f64,
     pub trials: u32,
@@ -52,6 +52,7 @@ const CONVERGENCE_PRECISION: f64 = 1.0e-8;
 const LIFTED: f64 = 0.000001;
 
 // What is missing at x of what is asked.
+#[tactic(auto, using(common::proofs::Formulas::raw_sub_from), unfolding(crate::specs::Secant::missing_at))]
 fn missing(curve: Curve, x: f64) -> Result<f64, Refusal>
     ensures { paper result ≡ missing_at curve x }
 {
@@ -62,6 +63,7 @@ fn missing(curve: Curve, x: f64) -> Result<f64, Refusal>
     })
 }
 
+#[tactic(auto, unfolding(std::specs::Prelude::from_bits, common::specs::Decimal::decimal, common::specs::Decimal::scaled))]
 fn lifted(x: f64) -> f64
     ensures { result ≡ lifted_to x }
 {
@@ -69,6 +71,7 @@ fn lifted(x: f64) -> f64
 }
 
 // The first step, where the two start points differ in what is missing.
+#[tactic(auto, using(crate::proofs::Steps::step_is), unfolding(crate::specs::Secant::opened_by, std::specs::Prelude::from_bits))]
 fn opened(s: Secant) -> Result<Secant, Refusal>
     ensures { paper result ≡ opened_by s }
 {
@@ -99,6 +102,7 @@ fn ordered(x1: f64, f1: f64, x2: f64, f2: f64) -> Secant
 }
 
 // The two start points, and the first step from them.
+#[tactic(auto, unfolding(crate::specs::Secant::start_of))]
 fn start(curve: Curve, x1: f64, x2: f64) -> Result<Secant, Refusal>
     ensures { paper result ≡ start_of curve x1 x2 }
 {
@@ -108,6 +112,7 @@ fn start(curve: Curve, x1: f64, x2: f64) -> Result<Secant, Refusal>
 }
 
 // One trial, where e is by how much the last two misses differ: the step, the place to which it leads, and what is missing there.
+#[tactic(auto, using(crate::proofs::Steps::step_is), unfolding(crate::specs::Secant::trial_by))]
 fn trial(curve: Curve, s: Secant, e: f64) -> Result<Secant, Refusal>
     ensures { paper result ≡ trial_by curve s e }
 {
@@ -124,6 +129,7 @@ fn trial(curve: Curve, s: Secant, e: f64) -> Result<Secant, Refusal>
 }
 
 // Whether a step was long enough for another.
+#[tactic(auto, unfolding(std::specs::Prelude::from_bits, common::specs::Decimal::decimal, common::specs::Decimal::scaled))]
 fn far(dx: f64) -> bool
     ensures { result ≡ lt convergence_precision (size_of dx) }
 {
@@ -131,6 +137,7 @@ fn far(dx: f64) -> bool
 }
 
 // A trial more, where one is asked for.
+#[tactic(auto, unfolding(crate::specs::Secant::turn_of, std::specs::Prelude::from_bits))]
 fn try_next(curve: Curve, s: Secant) -> Result<Option<Secant>, Refusal>
     ensures { paper result ≡ turn_of curve s }
 {
@@ -167,6 +174,7 @@ fn trials(curve: Curve, from: Secant) -> Result<Proposal, Refusal>
 }
 
 // The proposal of a search from x1 and x2.
+#[tactic(auto, unfolding(crate::specs::Secant::proposal_rule))]
 fn rtsec(curve: Curve, x1: f64, x2: f64) -> Result<Proposal, Refusal>
     ensures { paper result ≡ proposal_rule curve x1 x2 }
 {
