@@ -101,11 +101,6 @@ column_spans d ks =
     spans_of (ups d ks) (downs d ks) (left d k) (omega (arith, m.up)) (omega (arith, m.down)))
     ks (each up_of 0 ks) (each down_of 0 ks)
 
-pub steps_few : (d : Order) → steps d ≤ 2
-steps_few Zero = omega arith
-steps_few One = omega arith
-steps_few Two = omega arith
-
 -- ---- the rows
 
 module _ (f : Row → Bool) (p q : ℤ → Bool) where
