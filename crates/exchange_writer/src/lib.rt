@@ -64,6 +64,7 @@ fn field(tag: u8, x: f64) -> [u8; 11]
 }
 
 // The fields of a point's two numbers, with the tags of its pair.
+// Kept: tags as numbers, 1 to 5, as in exchange_record's `Known`: docs/SCOPE and the grammar in specs have them so.
 fn fields_of(point: Point) -> ([u8; 11], [u8; 11])
     ensures { result.0 ++ result.1 ≡ record_of point }
 {
