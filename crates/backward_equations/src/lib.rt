@@ -3,8 +3,8 @@
 #![tactic(auto)]
 
 mod by_side;
-mod columns;
 mod pattern;
+mod sums;
 
 pub use by_side::{raw_hs2p, raw_ph2T, raw_ph2v, raw_ps2T, raw_ps2v};
 
@@ -16,6 +16,7 @@ pub enum Side {
 }
 
 // An equation: what it gives, on which side, and from what.
+// Kept: a kind and no trait on the ten tables' types: the definitions `table_of` and `form_of` choose by the kind, as `sum` and `form` do.
 #[derive(Clone, Copy, Debug, PartialEq, Eq)]
 enum Equation {
     T3aPh,

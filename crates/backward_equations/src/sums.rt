@@ -8,6 +8,7 @@ use crate::Equation;
 use tables_ph::{T3aPh, T3bPh, V3aPh, V3bPh};
 use tables_ps_hs::{P3aHs, P3bHs, T3aPs, T3bPs, V3aPs, V3bPs};
 
+// Kept: a match over the kind, as the definition `table_of` (the reason stands at `Equation`).
 pub fn sum(e: Equation, x: f64, y: f64) -> f64
     ensures { result ≡ or_nan (sum_rule term x y (table_of e)) }
 {
