@@ -61,7 +61,8 @@ pub fn answer(given: Record, s: &[u8]) -> ExchangeAnswer
 }
 
 // The number of a verdict, 0 where it is accepted.
-// Kept: beside exchange_writer's `write_number` and common's `refusal_byte`: each speaks by its own refusals' definition.
+// Kept: beside exchange_writer's `write_number` and common's `refusal_byte`, each with a promise by its own refusals' definition: one generic over
+// `K: Into<u8>` could promise only what the `from_gives` of any K says, and each of the three would still have to say which number that is.
 pub fn verdict_number(v: Result<Pair, ExchangeRefusal>) -> u8
     ensures { result ≡ verdict_number v }
 {

@@ -11,8 +11,7 @@ use td_record::{Pressure, work_record};
 use volume_at::found_pT;
 
 // The record of a state whose T, v and d were found, or refused.
-// Kept: a match and no `?`, here and below, since the caller's record goes in by value and comes back zeroed beside a refusal.
-// Kept: (p,h) and (p,s) alike, each a name of the Rust's with its own pair of units.
+// Kept: a match and no `?`, since the answer is no Result: the caller's record goes in by value and comes back zeroed on a refusal (decision 28).
 fn record_of(given: Record, found: Result<Tvd, Refusal>, pressure: Pressure) -> RecordAnswer
     ensures { paper_record result ≡ report (record_of (paper found) pressure) }
 {
@@ -22,6 +21,7 @@ fn record_of(given: Record, found: Result<Tvd, Refusal>, pressure: Pressure) -> 
     }
 }
 
+// Kept: a match in each of the four calls, for the reason at `record_of`: `?` would need a private function more for each, and no arm less at `record_of`.
 #[tactic(auto, unfolding(crate::specs::Entries::pT_rule))]
 pub fn pT_reg3(given: Record, p: MPa, t: Kelvin) -> RecordAnswer
     ensures { paper_record result ≡ report (pT_rule p.0 t.0) }
@@ -32,6 +32,7 @@ pub fn pT_reg3(given: Record, p: MPa, t: Kelvin) -> RecordAnswer
     }
 }
 
+// Kept: (p,h) and (p,s) alike, each a name of the Rust's with its own pair of units.
 #[tactic(auto, unfolding(crate::specs::Entries::ph_rule))]
 pub fn ph_reg3(given: Record, p: MPa, h: KJPerKg) -> RecordAnswer
     ensures { paper_record result ≡ report (ph_rule p.0 h.0) }
