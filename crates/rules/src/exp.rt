@@ -17,6 +17,7 @@ const TAKEN: Interval = Interval {
 const L: f64 = 0.6931471805599453;
 
 // The whole number nearest to q, ties to even.
+// Kept: the sign is taken off and put back. Tried without, and the proof did not close: a cast to an integer takes no -0, which a q above -0.5 rounds to.
 fn nearest_whole(q: f64) -> i64
     requires { T (at_most1010 q) }
     ensures is { result ≡ nearest_whole q }
@@ -34,27 +35,21 @@ fn two_to(k: i64) -> f64
     f64::from_bits((1023 + k) as u64 * 0x10_0000_0000_0000)
 }
 
+// 14, 13, .. 1.
+const DIVISORS: [f64; 14] = [
+    14.0, 13.0, 12.0, 11.0, 10.0, 9.0, 8.0, 7.0, 6.0, 5.0, 4.0, 3.0, 2.0, 1.0,
+];
+
 // The steps from k on with no check; p is 2^k.
-// Kept: the fourteen turns stand one by one, since a loop over 14 to 1 would hide the divisors, and each would be a cast.
 fn exp_steps(x: f64, k: f64, p: f64) -> f64
     ensures { result ≡ raw_exp x k p }
 {
     let r = x - k * L;
-    let s14 = 1.0 + r * 1.0 / 14.0;
-    let s13 = 1.0 + r * s14 / 13.0;
-    let s12 = 1.0 + r * s13 / 12.0;
-    let s11 = 1.0 + r * s12 / 11.0;
-    let s10 = 1.0 + r * s11 / 10.0;
-    let s9 = 1.0 + r * s10 / 9.0;
-    let s8 = 1.0 + r * s9 / 8.0;
-    let s7 = 1.0 + r * s8 / 7.0;
-    let s6 = 1.0 + r * s7 / 6.0;
-    let s5 = 1.0 + r * s6 / 5.0;
-    let s4 = 1.0 + r * s5 / 4.0;
-    let s3 = 1.0 + r * s4 / 3.0;
-    let s2 = 1.0 + r * s3 / 2.0;
-    let s1 = 1.0 + r * s2 / 1.0;
-    s1 * p
+    let mut s = 1.0;
+    for d in DIVISORS {
+        s = 1.0 + r * s / d;
+    }
+    s * p
 }
 
 pub fn exponential(x: f64) -> Result<f64, Refusal>
