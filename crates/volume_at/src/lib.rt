@@ -18,7 +18,7 @@ pub enum Phase {
     Steam,
 }
 
-// What a (p,T) record is worked from: the volume, its density, and the letter by whose equation it was found.
+// What a (p,T) record is worked from: the volume, its density, and the origin: the letter by whose equation it was found, or the critical point.
 #[tactic(auto, unfolding(crate::specs::Volumes::found_rule))]
 pub fn found_pT(p: MPa, t: Kelvin) -> Result<State, Refusal>
     ensures { paper result ≡ found_rule p.0 t.0 }
@@ -67,6 +67,7 @@ pub fn pT2v_3subreg(p: MPa, t: Kelvin, l: Letter) -> Result<f64, Refusal>
 }
 
 // The letter on the saturation line.
+// Kept: a match over the two phases, by which the definition `saturated_letter` chooses too, with its splits written out as they are printed.
 #[tactic(auto, unfolding(std::specs::Prelude::from_bits, common::specs::Decimal::decimal, common::specs::Decimal::scaled))]
 fn saturated(x: Phase, p: MPa) -> Letter
     ensures { result ≡ saturated_letter x p.0 }
