@@ -16,7 +16,7 @@ use volume::found_by;
 
 // The letter's byte, or 0 where there is none; the density; the refusal's number, or 0.
 // Kept: numbers for a letter and a refusal, since the columns of the C interface hold bytes.
-#[derive(Clone, Copy)]
+#[derive(Clone, Copy, Debug, PartialEq)]
 pub struct Line {
     pub letter: u8,
     pub density: KgPerM3,
