@@ -28,14 +28,11 @@ fn array_at<const N: usize>(s: &[u8], at: usize) -> Option<[u8; N]>
 }
 
 // Four bytes with a sign.
-// Kept: a match here and in `float_at`, since the closure of a `map_or` tells the prover nothing of what it answers (tried).
 pub fn int_at(s: &[u8], at: usize) -> i32
     ensures { result ≡ int_in s.now at }
 {
-    match array_at::<4>(s, at) {
-        Some(b) => i32::from_le_bytes(b),
-        None => 0,
-    }
+    let b = array_at(s, at).unwrap_or([0; 4]);
+    i32::from_le_bytes(b)
 }
 
 // The number of its bits. Every pattern of a NaN is the one NaN: from_bits is not defined there.
@@ -51,10 +48,8 @@ pub fn float_of(n: u64) -> f64
 pub fn float_at(s: &[u8], at: usize) -> f64
     ensures { result ≡ float_in s.now at }
 {
-    match array_at::<8>(s, at) {
-        Some(b) => float_of(u64::from_le_bytes(b)),
-        None => 0.0,
-    }
+    let b = array_at(s, at).unwrap_or([0; 8]);
+    float_of(u64::from_le_bytes(b))
 }
 
 // Bytes from an index on, where all of them have room.
