@@ -4,7 +4,7 @@
 
 ghost use Rattle.std.specs.Prelude.{◌≡◌, List, ℕ, ◌+◌, ◌-◌, ◌<◌, ◌≤◌, ◌^◌, length, set, Float};
 ghost use Rattle.rules.specs.Power.{one};
-ghost use Rattle.powers.specs.Powers.{Written, WrittenBy, BarePowers, Powers, ruled, capped, exponent_at, looked_up};
+ghost use Rattle.powers.specs.Powers.{Written, WrittenBy, BarePowers, Powers, ruled, exponent_at, looked_up};
 ghost use Rattle.powers.specs.Reach.{squared};
 
 use common::over;
