@@ -3,7 +3,8 @@ ghost use Rattle.std.specs.Prelude.{◌≡◌};
 ghost use Rattle.common.specs.Outcome.{refused, then};
 ghost use Rattle.common.specs.Answer.{number_of, paper};
 ghost use Rattle.record.specs.Record.{paper_record};
-ghost use Rattle.search.specs.Calls.{pv_box, Th_box, Ts_box, pv2T_reg3_rule, Th2d_reg3_rule, Ts2d_reg3_rule, record_found, record_on, record_along, with_trials, pv_rule, Th_rule, Ts_rule, paper_searched, report_searched};
+ghost use Rattle.search.specs.Calls.{pv_box, Th_box, Ts_box, pv2T_reg3_rule, Th2d_reg3_rule, Ts2d_reg3_rule, pv_rule, Th_rule, Ts_rule};
+ghost use Rattle.search.specs.Calls.{record_found, record_on, record_along, with_trials, paper_searched, report_searched};
 
 use crate::SearchedRecord;
 use common::{
@@ -99,6 +100,7 @@ fn refused_record(given: Record, k: Refusal) -> SearchedRecord
 }
 
 // The record at (p,v). Its v is 1/d, d being 1/v: not always the v that was asked.
+// Kept: a match here and in `on_isotherm`, since the answer is no Result (decision 28); each has another number found, T here and d there.
 pub fn pv_reg3(given: Record, p: MPa, v: M3PerKg) -> SearchedRecord
     ensures { paper_searched result ≡ report_searched (pv_rule p.0 v.0) }
 {
