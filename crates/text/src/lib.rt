@@ -35,6 +35,7 @@ impl Writer<'_> {
         }
     }
 
+    // Kept: digits by hand. The library's `write!` was read and not tried: of lent bytes under a Cursor it promises nothing of what is written.
     fn put_digits(&mut self, n: u64)
         requires { self.old.at + length (decimal n) ≤ length self.old.out.now }
         ensures wrote { Wrote self.old.out.now self.old.at (decimal n) self.new.out.now self.new.at }
