@@ -2,8 +2,7 @@
 // one by one by the rule.
 #![tactic(auto)]
 
-ghost use Rattle.std.specs.Prelude.{◌≡◌, List, ℕ, ◌+◌, ◌-◌, ◌<◌, ◌≤◌, ◌^◌, length, set, Float};
-ghost use Rattle.rules.specs.Power.{one};
+ghost use Rattle.std.specs.Prelude.{◌≡◌, List, ℕ, ◌+◌, ◌-◌, ◌<◌, ◌≤◌, ◌^◌, Float};
 ghost use Rattle.powers.specs.Powers.{Written, WrittenBy, BarePowers, Powers, ruled, exponent_at, looked_up};
 ghost use Rattle.powers.specs.Reach.{squared};
 
@@ -22,21 +21,13 @@ fn double(half: usize, count: usize, sq: f64, w: &mut [f64; 129])
     }
 }
 
-// The power 0. That the table behind a reference has its 129 places is known where it is lent as a slice, as here and in `fill_by_rule`.
-fn put_one(w: &mut [f64])
-    requires { 64 < length w.old }
-    ensures { w.new ≡ set w.old 64 one }
-{
-    w[64] = 1.0;
-}
-
 // The powers of a from 0 to `top`, or to 7.
-// Kept: the doublings stand one by one, since a loop over them would be slower: the first three have a fixed length.
+// Kept: the doublings stand one by one. The first three have a fixed length and each of the others may be the last, so a loop over them is no plainer.
 fn fill_up(a: f64, top: usize, w: &mut [f64; 129])
     requires { top ≤ 64 }
     ensures { Written a w.old w.new 64 (72 + (top - 7)) }
 {
-    put_one(w);
+    w[64] = 1.0;
     double(1, 1, a, w);
     let a2 = a * a;
     double(2, 2, a2, w);
@@ -91,8 +82,8 @@ fn exponent_at(k: usize) -> i32
 }
 
 // The powers of any base that stand from `lo` to below `hi`, one by one.
-fn fill_by_rule(a: f64, lo: usize, hi: usize, w: &mut [f64])
-    requires { (lo ≤ hi) × (hi ≤ 129) × (length w.old ≡ 129) }
+fn fill_by_rule(a: f64, lo: usize, hi: usize, w: &mut [f64; 129])
+    requires { (lo ≤ hi) × (hi ≤ 129) }
     ensures { WrittenBy (ruled a) w.old w.new lo hi }
 {
     for k in lo..hi {

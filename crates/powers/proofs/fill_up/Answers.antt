@@ -30,7 +30,7 @@ all t p q = omega arith
 
 full1 : (c : After-double) → Written c.args.a c.args.w.now c.double.new.w 64 66
 unfolding squared of_bits
-full1 c = c.double.ensures c.args.a c.args.w.now 0 (lit≤ tt) refl refl (written_one c.args.a c.args.w.now _ c.told-w c.put_one.ensures)
+full1 c = c.double.ensures c.args.a c.args.w.now 0 (lit≤ tt) refl refl (written_one c.args.a c.args.w.now _ c.told-w refl)
 
 full2 : (c : After-double-2) → Written c.args.a c.args.w.now c.double-2.new.w 64 68
 unfolding squared
