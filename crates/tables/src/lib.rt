@@ -13,6 +13,7 @@ use tables_h_m::{V3h, V3i, V3j, V3k, V3l, V3m};
 use tables_n_t::{V3n, V3o, V3p, V3q, V3r, V3s, V3t};
 use tables_u_z::{V3u, V3v, V3w, V3x, V3y, V3z};
 
+// Kept: a match over the 26 letters, by which the definition `summed` chooses too; each letter's table is a type, and a type is chosen by a match alone.
 pub fn letter_sum(l: Letter, x: f64, y: f64) -> f64
     ensures { result ≡ or_nan (sum_rule term x y (summed l)) }
 {
