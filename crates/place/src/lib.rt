@@ -1,6 +1,6 @@
 // From a curve, with what is asked of it, to the place that the check accepts: the start points (r3/region3_pair_ext.rs), the search, the proposal's range,
 // the check.
-#![tactic(auto)]
+#![tactic(auto, using(common::proofs::Calls::passed_on, common::proofs::Calls::went_in))]
 
 ghost use Rattle.std.specs.Prelude.{◌≡◌};
 ghost use Rattle.common.specs.Answer.{paper};
@@ -13,13 +13,14 @@ use secant::{Curve, Proposal, rtsec_h, rtsec_p, rtsec_s};
 use volume_at::pT2v_at;
 
 // The places, in K or kg/m3 by the curve, between which a search starts.
-#[derive(Clone, Copy)]
+#[derive(Clone, Copy, Debug, PartialEq)]
 struct Starts {
     first: f64,
     second: f64,
 }
 
 // The density of the volume at a pressure, at any p and t.
+#[tactic(auto, unfolding(crate::specs::AcceptedPlace::density_at, std::specs::Prelude::from_bits, common::specs::Decimal::whole))]
 fn density_at(p: MPa, t: Kelvin) -> Result<f64, Refusal>
     ensures { paper result ≡ density_at p.0 t.0 }
 {
@@ -50,6 +51,7 @@ fn temperatures(p: MPa) -> Result<Starts, Refusal>
 
 // The start points, then the search.
 // Kept: here and below a match over the closed kind of curves (secant).
+#[tactic(auto, unfolding(crate::specs::AcceptedPlace::proposed_for, crate::specs::AcceptedPlace::starts_of))]
 fn proposed(curve: Curve) -> Result<Proposal, Refusal>
     ensures { paper result ≡ proposed_for curve }
 {
@@ -91,6 +93,7 @@ fn checked(curve: Curve, x: f64) -> Result<(), Refusal>
 }
 
 // A proposal in its range, then accepted by the check.
+#[tactic(auto, unfolding(crate::specs::AcceptedPlace::accepted_at))]
 fn accept(curve: Curve, x: f64) -> Result<(), Refusal>
     ensures { paper result ≡ accepted_at curve x }
 {
@@ -101,6 +104,7 @@ fn accept(curve: Curve, x: f64) -> Result<(), Refusal>
 }
 
 // The place on a curve at which its property is the asked one, and how many trials the search made.
+#[tactic(auto, unfolding(crate::specs::AcceptedPlace::found_on))]
 pub fn found(curve: Curve) -> Result<Proposal, Refusal>
     ensures { paper result ≡ found_on curve }
 {
