@@ -7,6 +7,7 @@ use crate::shape::{four_numbers, two_numbers};
 use reply::{Reply, number_reply};
 
 // The refusal of a sum or a table that does not exist.
+// Kept: apart from number_entries', which is 255 too: that is another program's, of what does not exist there.
 pub const UNKNOWN: u8 = 255;
 
 const SUMS: [Sum; 11] = [
@@ -24,12 +25,14 @@ const SUMS: [Sum; 11] = [
 ];
 
 // The sum that a number names, if any.
+// Kept: an Option and no TryFrom, since None says all there is to say of a number that names none: an error type would say no more.
 pub fn sum_of(number: u8) -> Option<Sum>
     ensures { result ≡ sum_of number }
 {
     SUMS.get(usize::from(number)).copied()
 }
 
+// Kept: three slices and no `Columns` of slopes (not tried): the sums take a caller's columns as lent, of unequal lengths too, which they refuse.
 #[tactic(auto, unfolding(crate::specs::Sums::reply_rule))]
 pub fn work(sum: Sum, vi: f64, vj: f64, is: &[i32], js: &[i32], ns: &[f64]) -> Reply
     ensures { result ≡ reply_rule sum vi vj is.now js.now ns.now }
