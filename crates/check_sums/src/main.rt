@@ -9,7 +9,7 @@ use sum_rows::reply_to;
 const MOST: u64 = 0xffff_ffff_ffff_ffff;
 
 // The rows, each answered as it is read.
-// Kept: a loop of its own in each program (one of all in `pages` was not tried): the words that it says are its own, and little else is in it.
+// Kept: a loop of its own in each program: the words that it says and what it does with a row are its own, and little else is in it.
 fn answer_rows(rt: HostRuntime, tables: &[u8]) {
     let mut row = [0u8; 24];
     for done in 0..MOST {

@@ -9,6 +9,7 @@ use entry_numbers::entry_of;
 use number_entries::UNKNOWN;
 use reply::{Reply, put_reply, refused};
 
+// Kept: an index and its bound, and no row of `chunks_exact`: the replies of a page need the index, so both would stand in the loop.
 #[tactic(auto, unfolding(crate::specs::Rows::reply_at))]
 fn reply_at(s: &[u8], at: usize) -> Reply
     requires { at + 24 < 2 ^ 64 }

@@ -194,6 +194,7 @@ fn reply_to(row: &[u8]) -> [u8; 88] {
 }
 
 // One turn: a row and its reply. Answers whether to go on.
+// Kept: a turn of its own in each program: the words that it says and what it does with a row are its own, and the loop is three lines.
 fn turn(rt: HostRuntime, done: u64) -> bool {
     let mut row = [0; 24];
     let Reading { have, stop } = stdio::read_until_full(

@@ -22,6 +22,7 @@ fn reply(row: &[u8; 24]) -> [u8; 48] {
 }
 
 // One turn: a row and its reply. Answers whether to go on.
+// Kept: a turn of its own in each program: the words that it says and what it does with a row are its own, and the loop is three lines.
 fn turn(rt: HostRuntime, done: u64) -> bool {
     let mut row = [0; 24];
     let reading = stdio::read_until_full(rt, b"forward: standard input", &mut rt.stdin(), &mut row);

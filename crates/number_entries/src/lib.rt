@@ -12,6 +12,7 @@ use subregion::Letter;
 use volume_at::{Phase, pT2v_3subreg, pT2v_sat_reg3};
 
 // The refusal of an entry, a boundary, a letter or a phase that does not exist.
+// Kept: apart from sums_by_number's, which is 255 too: that is another program's, of what does not exist there.
 pub const UNKNOWN: u8 = 255;
 
 // The boundaries by their numbers.

@@ -32,7 +32,7 @@ pub fn sum_of(number: u8) -> Option<Sum>
     SUMS.get(usize::from(number)).copied()
 }
 
-// Kept: three slices and no `Columns` of slopes (not tried): the sums take a caller's columns as lent, of unequal lengths too, which they refuse.
+// Kept: three slices and no `Columns` of slopes: the sums take a caller's columns as lent, of unequal lengths too, which they refuse.
 #[tactic(auto, unfolding(crate::specs::Sums::reply_rule))]
 pub fn work(sum: Sum, vi: f64, vj: f64, is: &[i32], js: &[i32], ns: &[f64]) -> Reply
     ensures { result ≡ reply_rule sum vi vj is.now js.now ns.now }

@@ -35,7 +35,7 @@ impl Writer<'_> {
         }
     }
 
-    // Kept: digits by hand. The library's `write!` was read and not tried: of lent bytes under a Cursor it promises nothing of what is written.
+    // Kept: digits by hand: the library's `write!` promises nothing of what it writes to lent bytes.
     fn put_digits(&mut self, n: u64)
         requires { self.old.at + length (decimal n) ≤ length self.old.out.now }
         ensures wrote { Wrote self.old.out.now self.old.at (decimal n) self.new.out.now self.new.at }
