@@ -5,6 +5,7 @@ from pathlib import Path
 
 FN = re.compile(r' *(pub(\([a-z]+\))? )?(extern "C" )?fn ')
 CONST = re.compile(r" *(pub(\([a-z]+\))? )?const (?!fn )")
+IMPL = re.compile(r"impl(?:<[^{]*?>)? (?:(\w+)(?:<(.*)>)? for )?(\S.*?)(?: where.*)? \{$")
 
 
 @dataclass
@@ -37,22 +38,29 @@ def module(crate, file):
 
 def owners(text):
     """What each line of a text stands in: (body NAME), (head NAME), (const NAME), or nothing. rt fmt has laid the text out: a body ends at the brace
-    below the first letter of its function, and a function with a clause opens its body on a line of its own."""
-    state = name = indent = ""
+    below the first letter of its function, and a function with a clause opens its body on a line of its own. A method has the impl before its name, as the
+    prover calls it: Interval::contains, and of a trait's impl the type, the trait and its arguments in one word, U8FromRefusal::from."""
+    state = name = indent = block = ""
     found = []
     for line in text.split("\n"):
         if state == "body" and line == indent + "}":
             state = ""
+        if not state and line == "}":
+            block = ""
+        opened = IMPL.match(line)
+        if not state and opened:
+            words = [re.sub(r"\W+", " ", (it or "").replace("[", "array ", (it or "").startswith("["))).split() for it in (opened[3], opened[1], opened[2])]
+            block = ("".join(it[:1].upper() + it[1:] for word in words for it in word) if opened[1] else words[0][0]) + "::"
         starts = FN.match(line)
         if not state and starts:
             indent = line[:len(line) - len(line.lstrip(" "))]
-            name = re.match(r"\w*", line[starts.end():])[0]
+            name = block + re.match(r"\w*", line[starts.end():])[0]
             state = "line" if line.endswith("}") else "head"
         elif not state and CONST.match(line):
             name = re.match(r"\w*", line[CONST.match(line).end():])[0]
             state = "const"
         found.append((("body" if state == "line" else state), name) if state else ("", ""))
-        if state == "line" or state == "const" and line.endswith(";"):
+        if state == "line" or state == "const" and line.endswith(";") or state == "head" and line.endswith("};"):
             state = ""
         elif state == "head" and (line == indent + "{" or line.endswith("{") and (starts or line.startswith(indent + ")"))):
             state = "body"

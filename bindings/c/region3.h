@@ -24,7 +24,7 @@
  *  - At p = 100, the end of the range, half of all r3_pt calls are R3_STATE: the p of the found state comes out a little above 100. At 99.99 none
  *    of 4,001 was.
  *
- * The archive calls no mathematical function of the C library: the two symbols that it leaves to the linker are memcpy and memset.
+ * The archive calls no mathematical function of the C library: the one symbol that it leaves to the linker is memset.
  *
  * This header includes no other, but for stddef.h where the compiler does not name the type of a size by itself (GCC and Clang do).
  */

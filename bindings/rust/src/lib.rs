@@ -37,7 +37,7 @@
 //!
 //! The crate needs `libregion3_c.a`, of its own version and for the target's processor, in the repository's out/staticlib (for aarch64 out/native/aarch64) or in
 //! the folder that `REGION3_LIB` names; a relative one is read from the folder in which cargo was started. Where it is not there the build says so and
-//! ends; `cargo doc` and `cargo check` need none. The archive leaves two symbols to the linker, `memcpy` and `memset`, and calls no mathematical
+//! ends; `cargo doc` and `cargo check` need none. The archive leaves one symbol to the linker, `memset`, and calls no mathematical
 //! function of the C library.
 #![allow(non_snake_case)]
 #![deny(missing_docs)]

@@ -1,22 +1,18 @@
 -- What crates promise each other of a sum, and helps proofs; no public call's answer speaks of it. The same sums by two tables of powers and with no check:
 -- a lost number travels as itself, and an exponent that has no place in a table gives one. Assumes nothing: these are definitions.
 use Rattle.common.specs.Formula.{raw_over}
-use Rattle.std.specs.Prelude.{ℕ, ◌≡◌, List, Bool, cond, ◌&&◌, leb, ℤ, pos, nat_abs, ◌-ℤ◌, ◌*ℤ◌, drop, Float}
+use Rattle.std.specs.Prelude.{ℕ, ◌≡◌, List, Bool, cond, ◌&&◌, leb, ℤ, pos, nat_abs, ◌-ℤ◌, ◌*ℤ◌, Float}
 use Rattle.std.specs.Float.{nan, binary64}
 use Rattle.std.specs.Float.Ieee.{mul, of_int}
 use Rattle.common.specs.Outcome.{Outcome, check, then, zero_f}
 use Rattle.common.specs.Sum.{raw_total}
 use Rattle.powers.specs.Powers.{looked_up}
 use Rattle.powers.specs.Reach.{spans}
-use Rattle.algo.specs.Table.{Row, row, rows_of, left}
+use Rattle.algo.specs.Table.{Row, row, left}
 use Rattle.algo.specs.declared.Order.{Order}
 use Rattle.algo.specs.declared.Order.TheVariants.{Zero, One, Two}
 use Rattle.algo.specs.declared.Share.{Share}
 use Rattle.algo.specs.declared.Share.TheVariants.{Whole, I, IAgain, J, Ii, Ij, Jj}
-
--- the rows from k on
-abbrev pub rows_from : List ℤ → List ℤ → List Float → ℕ → List Row
-rows_from is js ns k = rows_of (drop k is) (drop k js) (drop k ns)
 
 -- ---- a term
 

@@ -9,7 +9,8 @@ ghost use Rattle.algo.specs.Raw.{gate};
 use common::is_finite;
 
 // How often a power of a table's term is differentiated by its base.
-#[derive(Clone, Copy)]
+// Kept: this and `Share` are kinds and no closures: the definitions choose by them too, and each law is stated once over all of them.
+#[derive(Clone, Copy, Debug, PartialEq, Eq)]
 pub enum Order {
     Zero,
     One,
@@ -18,7 +19,7 @@ pub enum Order {
 
 // How a sum takes up an item that it shares with others: whole, or differentiated by vi, by vj, or twice. The item is multiplied by its
 // exponent then, and the sum is divided by the base once at its end. `IAgain` is by vi for an item that is differentiated by vi already.
-#[derive(Clone, Copy)]
+#[derive(Clone, Copy, Debug, PartialEq, Eq)]
 pub enum Share {
     Whole,
     I,
@@ -30,17 +31,13 @@ pub enum Share {
 }
 
 // The number x of finite vi and vj, or a NaN.
+// Kept: vi and vj are two parameters of each sum, as in the Rust.
 pub fn gated(vi: f64, vj: f64, x: f64) -> f64
     ensures { result ≡ or_nan (gate vi vj x) }
 {
-    if is_finite(vi) {
-        if is_finite(vj) {
-            if is_finite(x) {
-                return x;
-            }
-            return 0.0 / 0.0;
-        }
-        return 0.0 / 0.0;
+    if is_finite(vi) && is_finite(vj) && is_finite(x) {
+        x
+    } else {
+        f64::NAN
     }
-    0.0 / 0.0
 }

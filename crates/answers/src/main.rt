@@ -8,9 +8,8 @@ const MOST: u64 = 0xffff_ffff_ffff_0000;
 // A page of rows: read, answered, written. Answers whether to go on.
 fn turn(rt: HostRuntime, rows: &mut [u8], replies: &mut [u8], done: u64) -> bool {
     let reading = stdio::read_until_full(rt, b"answers: standard input", &mut rt.stdin(), rows);
-    let have = reading.have;
-    let stop = reading.stop;
-    let n = entries::answer_rows(&rows[..have], replies);
+    let read = &rows[..reading.have];
+    let n = entries::answer_rows(read, replies);
     if !stdio::send(
         rt,
         b"answers: writing",
@@ -20,7 +19,13 @@ fn turn(rt: HostRuntime, rows: &mut [u8], replies: &mut [u8], done: u64) -> bool
         return false;
     }
     let by_now = done.wrapping_add(n as u64);
-    pages::go_on(rt, b"answers: rows ", stop, by_now, (have % 24) as u64)
+    pages::go_on(
+        rt,
+        b"answers: rows ",
+        reading.stop,
+        by_now,
+        (read.len() % 24) as u64,
+    )
 }
 
 fn main(rt: HostRuntime) {
@@ -30,13 +35,11 @@ fn main(rt: HostRuntime) {
     ) {
         return;
     }
-    let mut rows = [0u8; 12288];
-    let mut replies = [0u8; 45056];
-    let mut done: u64 = 0;
-    while done < MOST {
+    let mut rows = [0; 12288];
+    let mut replies = [0; 45056];
+    for done in (0..MOST).step_by(512) {
         if !turn(rt, &mut rows, &mut replies, done) {
             return;
         }
-        done += 512;
     }
 }

@@ -3,8 +3,7 @@
 use Rattle.common.specs.Formula.{◌⊕◌, ◌⊗◌, ◌⊘◌}
 use Rattle.std.specs.Prelude.{cond, pos, Float}
 use Rattle.std.specs.Float.Ieee.{le}
-use Rattle.common.specs.Outcome.{Outcome, value, refused, then}
-use Rattle.common.specs.Answer.{number_of}
+use Rattle.common.specs.Outcome.{Outcome, value, then}
 use Rattle.common.specs.Decimal.{plus, minus, whole, negative}
 use Rattle.common.specs.Constant.{sc_water}
 use Rattle.common.specs.Range.{hs_box, ph_box, ps_box}
@@ -12,10 +11,7 @@ use Rattle.record.specs.State.{pressure_of, temperature_of, density_of, volume_o
 use Rattle.backward_equations.specs.Equation.{ph2T_on, ph2v_on, ps2T_on, ps2v_on, hs2p_on}
 use Rattle.backward_equations.specs.declared.Side.{Side}
 use Rattle.backward_equations.specs.declared.Side.TheVariants.{A, B}
-use Rattle.backward.specs.declared.SideAnswer.{SideAnswer}
-use Rattle.backward.specs.declared.SideAnswer.TheVariants as sides
-use Rattle.backward.specs.declared.TvdAnswer.{TvdAnswer}
-use Rattle.backward.specs.declared.TvdAnswer.TheVariants as founds
+use Rattle.backward.specs.declared.Tvd.{Tvd}
 
 abbrev pub n1 : Outcome Float
 n1 = value (plus 15 0_201464004206875 (pos 4))
@@ -36,11 +32,6 @@ h3ab p =
     (n1 ⊕ π ⊗ (n2 ⊕ π ⊗ (n3 ⊕ n4 ⊗ π))) ⊗ value (whole 1)
 
 -- ---- the side, chosen once
-
--- the paper's number and value for each case
-abbrev pub paper_side : SideAnswer → Outcome Side
-paper_side (sides.Value x) = value x
-paper_side (sides.Refused k) = refused (number_of k)
 
 -- of p and h: the dividing enthalpy belongs to 3a
 unfoldable pub side_ph : Float → Float → Outcome Side
@@ -72,19 +63,11 @@ hs2p_reg3_rule h s = then (hs_box h s) (λ _. pressure_of (hs2p_on (side_s s) h 
 
 -- ---- what a record is worked from, at any p, h and s: no box is looked at
 
-pub record Tvd : Type 0 where
-  pub T : Float
-  pub v : Float
-  pub d : Float
-
--- the paper's number and values for each case
-abbrev pub paper_tvd : TvdAnswer → Outcome Tvd
-paper_tvd (founds.Value t v d) = value (record { T = t.0; v = v.0; d = d.0 })
-paper_tvd (founds.Refused k) = refused (number_of k)
-
 -- T with its test, v, d = 1/v with its test
 abbrev pub tvd_of : Outcome Float → Outcome Float → Outcome Tvd
-tvd_of ofT of_v = then (temperature_of ofT) (λ t. then of_v (λ v. then (density_of (value v)) (λ d. value (record { T = t; v = v; d = d }))))
+tvd_of ofT of_v =
+    then (temperature_of ofT)
+    (λ t. then of_v (λ v. then (density_of (value v)) (λ d. value (record { t = record { 0 = t }; v = record { 0 = v }; d = record { 0 = d } }))))
 
 unfoldable pub tvd_ph : Float → Float → Outcome Tvd
 unfolding side_ph

@@ -1,15 +1,15 @@
 // Temperature and volume from (p,h) and (p,s): S03rev. The side is chosen once (`side_ph`, `side_s`), then T and v are worked on it: both with
 // the density for a record (`found_ph`, `found_ps`), or one of them for a call of its own.
+// Kept: the calls are twins but for the equation, the pair and the last test, each a name of the Rust's; one function over closures would be no plainer.
 ghost use Rattle.std.specs.Prelude.{◌≡◌};
 ghost use Rattle.common.specs.Outcome.{check};
 ghost use Rattle.common.specs.Answer.{paper};
-ghost use Rattle.backward.specs.Backward.{h3ab, paper_side, side_ph, side_s, paper_tvd, tvd_of, tvd_ph, tvd_ps, ph2T_reg3_rule, ph2v_reg3_rule, ps2T_reg3_rule, ps2v_reg3_rule};
+ghost use Rattle.backward.specs.Backward.{h3ab, side_ph, side_s, tvd_of, tvd_ph, tvd_ps, ph2T_reg3_rule, ph2v_reg3_rule, ps2T_reg3_rule, ps2v_reg3_rule};
 
-use crate::{SideAnswer, TvdAnswer};
+use crate::Tvd;
 use backward_equations::{Side, raw_ph2T, raw_ph2v, raw_ps2T, raw_ps2v};
 use common::{
-    Answer, KJPerKg, KJPerKgK, Kelvin, KgPerM3, M3PerKg, MPa, Refusal, SC_WATER, Verdict, check_ph,
-    check_ps, is_finite,
+    KJPerKg, KJPerKgK, Kelvin, KgPerM3, M3PerKg, MPa, Refusal, SC_WATER, check_ph, check_ps, settle,
 };
 use record::{density, settle_t, settle_v};
 
@@ -24,20 +24,19 @@ fn p2h_3ab(p: MPa) -> f64
 }
 
 // The side of (p,h): 3a up to the dividing enthalpy, which belongs to it.
-fn side_ph(p: MPa, h: KJPerKg) -> SideAnswer
-    ensures { paper_side result ≡ side_ph p.0 h.0 }
+#[tactic(auto, unfolding(crate::specs::Backward::side_ph))]
+fn side_ph(p: MPa, h: KJPerKg) -> Result<Side, Refusal>
+    ensures { paper result ≡ side_ph p.0 h.0 }
 {
-    let line = p2h_3ab(p);
-    if is_finite(line) {
-        if h.0 <= line {
-            return SideAnswer::Value(Side::A);
-        }
-        return SideAnswer::Value(Side::B);
+    let line = settle(p2h_3ab(p))?;
+    if h.0 <= line {
+        return Ok(Side::A);
     }
-    SideAnswer::Refused(Refusal::Step)
+    Ok(Side::B)
 }
 
 // The side of an entropy, with p or with h: 3a up to the critical one, which belongs to it.
+#[tactic(auto, unfolding(std::specs::Prelude::from_bits, common::specs::Decimal::decimal, common::specs::Decimal::scaled))]
 pub fn side_s(s: KJPerKgK) -> Side
     ensures { result ≡ side_s s.0 }
 {
@@ -48,35 +47,29 @@ pub fn side_s(s: KJPerKgK) -> Side
 }
 
 // T with its test, then v and its density with its test.
-fn found(t: Kelvin, v: M3PerKg) -> TvdAnswer
-    ensures { paper_tvd result ≡ tvd_of (check t.0) (check v.0) }
+fn found(t: Kelvin, v: M3PerKg) -> Result<Tvd, Refusal>
+    ensures { paper result ≡ tvd_of (check t.0) (check v.0) }
 {
-    match settle_t(t) {
-        Answer::Value(t) => match density(v) {
-            Answer::Value(d) => TvdAnswer::Value(Kelvin(t), v, KgPerM3(d)),
-            Answer::Refused(k) => TvdAnswer::Refused(k),
-        },
-        Answer::Refused(outside) => TvdAnswer::Refused(outside),
-    }
+    let t = Kelvin(settle_t(t)?);
+    let d = KgPerM3(density(v)?);
+    Ok(Tvd { t, v, d })
 }
 
 // T, v and d from (p,h), on the side that is chosen once, at any p and h: no box is looked at.
-pub fn found_ph(p: MPa, h: KJPerKg) -> TvdAnswer
-    ensures { paper_tvd result ≡ tvd_ph p.0 h.0 }
+#[tactic(auto, unfolding(crate::specs::Backward::tvd_ph))]
+pub fn found_ph(p: MPa, h: KJPerKg) -> Result<Tvd, Refusal>
+    ensures { paper result ≡ tvd_ph p.0 h.0 }
 {
-    match side_ph(p, h) {
-        SideAnswer::Value(side) => {
-            let t = raw_ph2T(side, p, h);
-            let v = raw_ph2v(side, p, h);
-            found(Kelvin(t), M3PerKg(v))
-        }
-        SideAnswer::Refused(k) => TvdAnswer::Refused(k),
-    }
+    let side = side_ph(p, h)?;
+    let t = raw_ph2T(side, p, h);
+    let v = raw_ph2v(side, p, h);
+    found(Kelvin(t), M3PerKg(v))
 }
 
 // T, v and d from (p,s), in the same way.
-pub fn found_ps(p: MPa, s: KJPerKgK) -> TvdAnswer
-    ensures { paper_tvd result ≡ tvd_ps p.0 s.0 }
+#[tactic(auto, unfolding(crate::specs::Backward::tvd_ps))]
+pub fn found_ps(p: MPa, s: KJPerKgK) -> Result<Tvd, Refusal>
+    ensures { paper result ≡ tvd_ps p.0 s.0 }
 {
     let side = side_s(s);
     let t = raw_ps2T(side, p, s);
@@ -85,47 +78,39 @@ pub fn found_ps(p: MPa, s: KJPerKgK) -> TvdAnswer
 }
 
 // The temperature in K from (p,h).
-pub fn ph2T_reg3(p: MPa, h: KJPerKg) -> Answer
+#[tactic(auto, unfolding(crate::specs::Backward::ph2T_reg3_rule))]
+pub fn ph2T_reg3(p: MPa, h: KJPerKg) -> Result<f64, Refusal>
     ensures { paper result ≡ ph2T_reg3_rule p.0 h.0 }
 {
-    match check_ph(p, h) {
-        Verdict::Accepted => match side_ph(p, h) {
-            SideAnswer::Value(side) => settle_t(Kelvin(raw_ph2T(side, p, h))),
-            SideAnswer::Refused(lost) => Answer::Refused(lost),
-        },
-        Verdict::Refused(k) => Answer::Refused(k),
-    }
+    check_ph(p, h)?;
+    let side = side_ph(p, h)?;
+    settle_t(Kelvin(raw_ph2T(side, p, h)))
 }
 
 // The volume in m3/kg from (p,h).
-pub fn ph2v_reg3(p: MPa, h: KJPerKg) -> Answer
+#[tactic(auto, unfolding(crate::specs::Backward::ph2v_reg3_rule))]
+pub fn ph2v_reg3(p: MPa, h: KJPerKg) -> Result<f64, Refusal>
     ensures { paper result ≡ ph2v_reg3_rule p.0 h.0 }
 {
-    match check_ph(p, h) {
-        Verdict::Accepted => match side_ph(p, h) {
-            SideAnswer::Value(side) => settle_v(M3PerKg(raw_ph2v(side, p, h))),
-            SideAnswer::Refused(lost) => Answer::Refused(lost),
-        },
-        Verdict::Refused(k) => Answer::Refused(k),
-    }
+    check_ph(p, h)?;
+    let side = side_ph(p, h)?;
+    settle_v(M3PerKg(raw_ph2v(side, p, h)))
 }
 
 // The temperature in K from (p,s).
-pub fn ps2T_reg3(p: MPa, s: KJPerKgK) -> Answer
+#[tactic(auto, unfolding(crate::specs::Backward::ps2T_reg3_rule))]
+pub fn ps2T_reg3(p: MPa, s: KJPerKgK) -> Result<f64, Refusal>
     ensures { paper result ≡ ps2T_reg3_rule p.0 s.0 }
 {
-    match check_ps(p, s) {
-        Verdict::Accepted => settle_t(Kelvin(raw_ps2T(side_s(s), p, s))),
-        Verdict::Refused(k) => Answer::Refused(k),
-    }
+    check_ps(p, s)?;
+    settle_t(Kelvin(raw_ps2T(side_s(s), p, s)))
 }
 
 // The volume in m3/kg from (p,s).
-pub fn ps2v_reg3(p: MPa, s: KJPerKgK) -> Answer
+#[tactic(auto, unfolding(crate::specs::Backward::ps2v_reg3_rule))]
+pub fn ps2v_reg3(p: MPa, s: KJPerKgK) -> Result<f64, Refusal>
     ensures { paper result ≡ ps2v_reg3_rule p.0 s.0 }
 {
-    match check_ps(p, s) {
-        Verdict::Accepted => settle_v(M3PerKg(raw_ps2v(side_s(s), p, s))),
-        Verdict::Refused(k) => Answer::Refused(k),
-    }
+    check_ps(p, s)?;
+    settle_v(M3PerKg(raw_ps2v(side_s(s), p, s)))
 }

@@ -1,19 +1,19 @@
 // Pressure from (h,s): S04rev.
+// Kept: alike to the calls of region3_Tv_phps, for the reason that stands there.
 ghost use Rattle.std.specs.Prelude.{◌≡◌};
 ghost use Rattle.common.specs.Answer.{paper};
 ghost use Rattle.backward.specs.Backward.{hs2p_reg3_rule};
 
 use crate::region3_Tv_phps::side_s;
 use backward_equations::raw_hs2p;
-use common::{Answer, KJPerKg, KJPerKgK, MPa, Verdict, check_hs};
+use common::{KJPerKg, KJPerKgK, MPa, Refusal, check_hs};
 use record::settle_p;
 
 // The pressure in MPa from (h,s).
-pub fn hs2p_reg3(h: KJPerKg, s: KJPerKgK) -> Answer
+#[tactic(auto, unfolding(crate::specs::Backward::hs2p_reg3_rule))]
+pub fn hs2p_reg3(h: KJPerKg, s: KJPerKgK) -> Result<f64, Refusal>
     ensures { paper result ≡ hs2p_reg3_rule h.0 s.0 }
 {
-    match check_hs(h, s) {
-        Verdict::Accepted => settle_p(MPa(raw_hs2p(side_s(s), h, s))),
-        Verdict::Refused(k) => Answer::Refused(k),
-    }
+    check_hs(h, s)?;
+    settle_p(MPa(raw_hs2p(side_s(s), h, s)))
 }

@@ -1,4 +1,5 @@
 // What the equation of a side gives: T or v from (p,h) and from (p,s), p from (h,s). A number that is lost is a NaN.
+// Kept: five functions of one line, since each pair stands under its units.
 ghost use Rattle.common.specs.Number.{Number};
 ghost use Rattle.backward_equations.specs.Equation.{worked, of_side, ph2T_on, ph2v_on, ps2T_on, ps2v_on, hs2p_on};
 

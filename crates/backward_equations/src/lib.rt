@@ -3,20 +3,21 @@
 #![tactic(auto)]
 
 mod by_side;
-mod columns;
 mod pattern;
+mod sums;
 
 pub use by_side::{raw_hs2p, raw_ph2T, raw_ph2v, raw_ps2T, raw_ps2v};
 
 // A side of region 3: 3a up to the dividing line, which belongs to it, and 3b above.
-#[derive(Clone, Copy)]
+#[derive(Clone, Copy, Debug, PartialEq, Eq)]
 pub enum Side {
     A,
     B,
 }
 
 // An equation: what it gives, on which side, and from what.
-#[derive(Clone, Copy)]
+// Kept: a kind and no trait on the ten tables' types: the definitions `table_of` and `form_of` choose by the kind, as `sum` and `form` do.
+#[derive(Clone, Copy, Debug, PartialEq, Eq)]
 enum Equation {
     T3aPh,
     T3bPh,
@@ -31,7 +32,8 @@ enum Equation {
 }
 
 // The form of an equation at x and y, with its numbers z, x*, a, y*, b.
-#[derive(Clone, Copy)]
+// Kept: no struct of the five, which would stand beside a kind: a form is written out with its numbers as it is printed.
+#[derive(Clone, Copy, Debug, PartialEq)]
 enum Form {
     // z times the sum at x / x* + a and y / y* - b
     Plus(f64, f64, f64, f64, f64),

@@ -5,10 +5,11 @@ ghost use Rattle.common.specs.Outcome.{check};
 ghost use Rattle.common.specs.Number.{Number};
 ghost use Rattle.backward_equations.specs.Equation.{table_of, form_of, worked_by, worked};
 
-use crate::columns::sum;
+use crate::sums::sum;
 use crate::{Equation, Form};
 use common::{finite_or_nan, over};
 
+// Kept: a match over the kind, as the definition `form_of` (the reason stands at `Equation`).
 fn form(e: Equation) -> Form
     ensures { result ≡ form_of e }
 {

@@ -1,6 +1,6 @@
 -- A number less itself is 0, or a NaN where it is lost; so a sum of such differences is lost exactly where one of the numbers is. Assumes nothing.
-use mathlib.Core.Path.{◌≡◌, refl, ap, ◌∙◌}
-use mathlib.Core.Bool.{Bool, true, false, not, ◌&&◌, cond}
+use mathlib.Core.Path.{◌≡◌, refl, sym, ap, ◌∙◌}
+use mathlib.Core.Bool.{Bool, true, false, not, ◌&&◌}
 use mathlib.Core.List.{List, [], ◌∷◌}
 use Prim.Native.Nat.{ℕ, ◌-◌, ◌*◌, ◌<◌}
 use native.Mathlib.Nat.{lt_irrefl, mul-pos}
@@ -9,10 +9,8 @@ use lib.Dec.{T, ltb, ltb→lt}
 use lib.Ieee.{Float, nan, inf, fin, binary64, up, down, round, neg, sum, add, sub}
 use lib.Ieee.Fits.{down_pos}
 use lib.Ieee.Scale.{round_same}
-use Rattle.common.specs.Outcome.{Outcome, value, refused, finite, zero_f}
+use Rattle.common.specs.Outcome.{finite, zero_f}
 use Rattle.common.specs.Sum.{every}
-use Rattle.subregion.specs.declared.Letter.{Letter}
-use Rattle.bands.specs.Bands.{if_all}
 
 -- 0 where the test passes
 abbrev zero_if : Bool → Float
@@ -69,15 +67,18 @@ pub none_lost : (x : Float) (xs : List Float) → finite (spread (sub binary64 x
 unfolding every
 none_lost x xs = ap (λ (z : Float). finite (spread z xs)) (less_itself x) ∙ spread_is (finite x) xs
 
--- the letter l, which is m, if that sum is not lost: so if no number is
-pub if_all_lem : {o : Outcome Letter} {l m : Letter} (x : Float) (xs : List Float) → o ≡ cond (finite (spread (sub binary64 x x) xs)) (value l) (refused 5) → l ≡ m → o ≡ if_all (x ∷ xs) m
-if_all_lem x xs e h = e ∙ rw (none_lost x xs, h)
-
--- and of one number
-pub if_one : {o : Outcome Letter} {l m : Letter} (x : Float) → o ≡ cond (finite x) (value l) (refused 5) → l ≡ m → o ≡ if_all (x ∷ []) m
+-- every one of the numbers that a band tests is kept where the number that it tests for them is
+pub one_kept : (x : Float) → every finite (x ∷ []) ≡ finite x
 unfolding every
-if_one {m = m} x e h = e ∙ rw h (alone (finite x))
+one_kept x = go (finite x)
   where
-    alone : (b : Bool) → cond b (value m) (refused 5) ≡ cond (b && true) (value m) (refused 5)
-    alone true = refl
-    alone false = refl
+    go : (b : Bool) → (b && true) ≡ b
+    go true = refl
+    go false = refl
+
+pub two_kept : (x y : Float) → every finite (x ∷ y ∷ []) ≡ finite (add binary64 (sub binary64 x x) (sub binary64 y y))
+two_kept x y = sym (none_lost x (y ∷ []))
+
+pub three_kept : (x y z : Float) →
+    every finite (x ∷ y ∷ z ∷ []) ≡ finite (add binary64 (add binary64 (sub binary64 x x) (sub binary64 y y)) (sub binary64 z z))
+three_kept x y z = sym (none_lost x (y ∷ z ∷ []))

@@ -1,21 +1,18 @@
 // The border between regions 2 and 3: R7-97, equations 5 and 6 (common/boundaries.rs). First the steps of each, then the calls, then the test that
 // (p,T) lies on region 3's side. The steps are raw: a number that is lost travels as itself to the end.
-#![tactic(auto)]
+#![tactic(auto, using(common::proofs::Calls::passed_on, common::proofs::Calls::went_in))]
 
 ghost use Rattle.std.specs.Prelude.{◌≡◌, cond, not};
 ghost use Rattle.std.specs.Float.{binary64};
 ghost use Rattle.std.specs.Float.Ieee.{add, lt};
 ghost use Rattle.common.specs.Outcome.{value, refused, or_nan};
 ghost use Rattle.common.specs.Formula.{Raw};
-ghost use Rattle.common.specs.Answer.{paper, paper_verdict};
+ghost use Rattle.common.specs.Answer.{paper};
 ghost use Rattle.common.specs.Range.{pT_box};
 ghost use Rattle.inverses.specs.Root.{root_rule};
 ghost use Rattle.border.specs.Border.{n4, B23_T2p, B23_T2p_rule, B23_p2T, B23_p2T_rule, beside_border, region3_box};
 
-use common::{
-    Answer, Kelvin, MPa, P_FROM, P_TO, Refusal, T_FROM, T_TO, Verdict, check_only, check_pT,
-    is_finite, settle,
-};
+use common::{Kelvin, MPa, P_RANGE, Refusal, T_RANGE, check_only, check_pT, finite_or_nan, settle};
 use inverses::raw_root;
 
 // R7-97, table 1
@@ -43,39 +40,34 @@ fn p2t_steps(p: f64) -> f64
     N4 + raw_root((p - N5) / N3)
 }
 
+// Kept: this and the next, and the two of r4, are alike: each is a name of the Rust's, with its own unit, range and equation.
 // The border's pressure in MPa.
-pub fn B23_T2p(t: Kelvin) -> Answer
+pub fn B23_T2p(t: Kelvin) -> Result<f64, Refusal>
     ensures { paper result ≡ B23_T2p_rule t.0 }
 {
-    match check_only(t.0, T_FROM, T_TO) {
-        Verdict::Accepted => settle(t2p_steps(t.0)),
-        Verdict::Refused(k) => Answer::Refused(k),
-    }
+    check_only(t.0, T_RANGE)?;
+    settle(t2p_steps(t.0))
 }
 
 // The border's temperature in K.
-pub fn B23_p2T(p: MPa) -> Answer
+pub fn B23_p2T(p: MPa) -> Result<f64, Refusal>
     ensures { paper result ≡ B23_p2T_rule p.0 }
 {
-    match check_only(p.0, P_FROM, P_TO) {
-        Verdict::Accepted => settle(p2t_steps(p.0)),
-        Verdict::Refused(k) => Answer::Refused(k),
-    }
+    check_only(p.0, P_RANGE)?;
+    settle(p2t_steps(p.0))
 }
 
 // For the layers above, which test once at the end: the equations at any T and p, and a NaN where a step is refused.
 pub fn raw_B23_T2p(t: Kelvin) -> f64
     ensures { result ≡ or_nan (B23_T2p t.0) }
 {
-    let p = t2p_steps(t.0);
-    if is_finite(p) { p } else { 0.0 / 0.0 }
+    finite_or_nan(t2p_steps(t.0))
 }
 
 pub fn raw_B23_p2T(p: MPa) -> f64
     ensures { result ≡ or_nan (B23_p2T p.0) }
 {
-    let t = p2t_steps(p.0);
-    if is_finite(t) { t } else { 0.0 / 0.0 }
+    finite_or_nan(p2t_steps(p.0))
 }
 
 // How far below T the border is taken to lie, in K, where T is held to be above it without the root.
@@ -85,7 +77,7 @@ const MARGIN: f64 = 0.001;
 fn by_root(q: f64, t: f64) -> bool
     ensures { result ≡ not (lt (add binary64 (or_nan n4) (or_nan (root_rule q))) t) }
 {
-    if N4 + raw_root(q) < t { false } else { true }
+    !(N4 + raw_root(q) < t)
 }
 
 // Whether T is not above the border, for p and T of the box. The border is N4 + root(q), so where (T - N4)^2 is below q, or above it by the margin,
@@ -96,31 +88,24 @@ fn beside(p: f64, t: f64) -> bool
 {
     let q = (p - N5) / N3;
     let d = t - N4;
-    if d * d < q {
-        if t <= N4 + d {
-            return true;
-        }
+    if d * d < q && t <= N4 + d {
+        return true;
     }
     let e = d - MARGIN;
-    if q < e * e {
-        if N4 + e < t {
-            return false;
-        }
+    if q < e * e && N4 + e < t {
+        return false;
     }
     by_root(q, t)
 }
 
 // The checks of a call with (p,T) that answers in region 3 alone: the box, then 8 beyond the border with region 2.
-pub fn check_region3(p: MPa, t: Kelvin) -> Verdict
-    ensures { paper_verdict result ≡ region3_box p.0 t.0 }
+#[tactic(auto, unfolding(crate::specs::Border::region3_box))]
+pub fn check_region3(p: MPa, t: Kelvin) -> Result<(), Refusal>
+    ensures { paper result ≡ region3_box p.0 t.0 }
 {
-    match check_pT(p, t) {
-        Verdict::Accepted => {
-            if beside(p.0, t.0) {
-                return Verdict::Accepted;
-            }
-            Verdict::Refused(Refusal::Border)
-        }
-        Verdict::Refused(k) => Verdict::Refused(k),
+    check_pT(p, t)?;
+    if !beside(p.0, t.0) {
+        return Err(Refusal::Border);
     }
+    Ok(())
 }

@@ -1,3 +1,4 @@
+pub mod Walks
 pub mod TableSums
 pub mod Kept
 pub mod Unique

@@ -1,5 +1,5 @@
 -- Helps proofs only: a row of the code as a row of the table, and a boundary's number with no check. Assumes nothing: these are definitions.
-use Rattle.std.specs.Prelude.{Bool, true, false, List, [], ◌∷◌, ◌≡◌, leb, ℤ, nat_abs, Float}
+use Rattle.std.specs.Prelude.{ℕ, Bool, true, false, List, [], ◌∷◌, ◌++◌, map, Option, None, Some, ◌≡◌, leb, ℤ, nat_abs, Float}
 use Rattle.std.specs.Float.{binary64}
 use Rattle.std.specs.Float.Ieee.{add, sub, mul}
 use Rattle.common.specs.Outcome.{check, or_nan, zero_f}
@@ -12,11 +12,24 @@ use Rattle.boundaries.specs.Boundary as paper
 use Rattle.boundaries.specs.Boundary.{term, Argument, in_p, in_ln, row, row_at, Form, tabled, straight, form_of}
 use Rattle.boundaries.specs.declared.Boundary.{Boundary}
 use Rattle.boundaries.specs.declared.table.Term.{Term}
-use Rattle.boundaries.specs.declared.table.Fifth.{Fifth}
-use Rattle.boundaries.specs.declared.table.Fifth.TheVariants.{Absent, Present}
+use Rattle.boundaries.specs.declared.table.Place.{Place}
+use Rattle.boundaries.specs.declared.table.Place.TheVariants.{Ab, Cd, Gh, Ij, Jk, Mn, Op, Qu, Rx, Uv, Wx}
 use Rattle.boundaries.specs.declared.table.Row.{Row}
 
--- ---- a row of the code
+-- ---- a row of the code, and its place in the table
+
+abbrev pub place_of : Place → ℕ
+place_of Ab = 0
+place_of Cd = 1
+place_of Gh = 2
+place_of Ij = 3
+place_of Jk = 4
+place_of Mn = 5
+place_of Op = 6
+place_of Qu = 7
+place_of Rx = 8
+place_of Uv = 9
+place_of Wx = 10
 
 abbrev pub argument_of : Bool → Argument
 argument_of true = in_ln
@@ -25,12 +38,12 @@ argument_of false = in_p
 abbrev pub term_of : Term → paper.Term
 term_of t = term t.0 t.1
 
-abbrev pub fifth_of : Fifth → List paper.Term
-fifth_of Absent = []
-fifth_of (Present t) = term_of t ∷ []
+abbrev pub fifth_of : Option Term → List paper.Term
+fifth_of None = []
+fifth_of (Some t) = term_of t ∷ []
 
 abbrev pub row_of : Row → paper.Row
-row_of r = row (argument_of r.ln) (term_of r.t1 ∷ term_of r.t2 ∷ term_of r.t3 ∷ term_of r.t4 ∷ fifth_of r.t5)
+row_of r = row (argument_of r.ln) (map term_of r.terms ++ fifth_of r.fifth)
 
 -- ---- the walk: a lost number is the result
 

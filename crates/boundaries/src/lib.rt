@@ -8,7 +8,7 @@ mod temperatures;
 pub use temperatures::{T_atRegionBoundary, bare_boundary, raw_boundary};
 
 // A boundary between two subregions.
-#[derive(Clone, Copy)]
+#[derive(Clone, Copy, Debug, PartialEq, Eq)]
 pub enum Boundary {
     Ab,
     Cd,

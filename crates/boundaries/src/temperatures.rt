@@ -1,14 +1,16 @@
 // The twelve boundaries: a temperature at a pressure. One walk serves every row, by powers of two kinds: by the rule, or bare, with no look at them, which is
 // quicker, and the same where no power is lost.
+// Kept: which kind is a flag that the calls hand on. As a const parameter (tried) it leaves `by_row` out of line, with a place that the compiler does not know: a
+// quarter more instructions for a boundary in ln p.
 ghost use Rattle.std.specs.Prelude.{◌≡◌};
 ghost use Rattle.common.specs.Answer.{paper};
 ghost use Rattle.boundaries.specs.Boundary.{tabled, row_at, form_of, boundary_rule};
-ghost use Rattle.boundaries.specs.Raw.{argument_of, term_of, row_of, raw_argument, raw_term, raw_sum, raw_form, raw_at, bare_at};
+ghost use Rattle.boundaries.specs.Raw.{place_of, argument_of, term_of, row_of, raw_argument, raw_term, raw_sum, raw_form, raw_at, bare_at};
 ghost use Rattle.boundaries.specs.declared.Boundary.TheVariants.{Ef};
 
 use crate::Boundary;
-use crate::table::{AB, CD, Fifth, GH, IJ, JK, MN, OP, QU, RX, Row, Term, UV, WX, row_at};
-use common::{Answer, MPa, P_FROM, P_TO, Verdict, check_only, settle};
+use crate::table::{Place, Row, Term, row_at};
+use common::{MPa, P_RANGE, Refusal, check_only, settle};
 use inverses::raw_logarithm;
 use rules::{bare_power, raw_power};
 use sizes::usual;
@@ -35,34 +37,29 @@ fn worked(bare: bool, t: Term, x: f64) -> f64
 fn walk(row: Row, bare: bool, x: f64) -> f64
     ensures { result ≡ raw_sum bare (row_of row) x }
 {
-    let four = 0.0
-        + worked(bare, row.t1, x)
-        + worked(bare, row.t2, x)
-        + worked(bare, row.t3, x)
-        + worked(bare, row.t4, x);
-    let fifth = row.t5;
-    match fifth {
-        Fifth::Absent => four,
-        Fifth::Present(t) => four + worked(bare, t, x),
+    let mut sum = 0.0;
+    for t in row.terms {
+        sum += worked(bare, t, x);
+    }
+    match row.fifth {
+        None => sum,
+        Some(t) => sum + worked(bare, t, x),
     }
 }
 
 // The row at place k walked at x. The walk is called from here alone, by a place: so the compiler writes it out for each row that is asked for.
-fn walk_at(k: usize, bare: bool, x: f64) -> f64
-    ensures { result ≡ raw_sum bare (row_at k) x }
+fn walk_at(k: Place, bare: bool, x: f64) -> f64
+    ensures { result ≡ raw_sum bare (row_at (place_of k)) x }
 {
     walk(row_at(k), bare, x)
 }
 
 // The temperature by the row at place k. Where bare powers are not asked for, they are taken all the same at a usual argument, at which they are the rule's.
-fn by_row(k: usize, bare: bool, p: MPa) -> f64
-    ensures { result ≡ raw_form bare (tabled k) p.0 }
+fn by_row(k: Place, bare: bool, p: MPa) -> f64
+    ensures { result ≡ raw_form bare (tabled (place_of k)) p.0 }
 {
     let x = argument(row_at(k).ln, p.0);
-    if bare {
-        return walk_at(k, true, x);
-    }
-    if usual(x) {
+    if bare || usual(x) {
         walk_at(k, true, x)
     } else {
         walk_at(k, false, x)
@@ -81,18 +78,18 @@ fn number(b: Boundary, bare: bool, p: MPa) -> f64
     ensures { result ≡ raw_form bare (form_of b) p.0 }
 {
     match b {
-        Boundary::Ab => by_row(AB, bare, p),
-        Boundary::Cd => by_row(CD, bare, p),
+        Boundary::Ab => by_row(Place::Ab, bare, p),
+        Boundary::Cd => by_row(Place::Cd, bare, p),
         Boundary::Ef => t_3ef(p),
-        Boundary::Gh => by_row(GH, bare, p),
-        Boundary::Ij => by_row(IJ, bare, p),
-        Boundary::Jk => by_row(JK, bare, p),
-        Boundary::Mn => by_row(MN, bare, p),
-        Boundary::Op => by_row(OP, bare, p),
-        Boundary::Qu => by_row(QU, bare, p),
-        Boundary::Rx => by_row(RX, bare, p),
-        Boundary::Uv => by_row(UV, bare, p),
-        Boundary::Wx => by_row(WX, bare, p),
+        Boundary::Gh => by_row(Place::Gh, bare, p),
+        Boundary::Ij => by_row(Place::Ij, bare, p),
+        Boundary::Jk => by_row(Place::Jk, bare, p),
+        Boundary::Mn => by_row(Place::Mn, bare, p),
+        Boundary::Op => by_row(Place::Op, bare, p),
+        Boundary::Qu => by_row(Place::Qu, bare, p),
+        Boundary::Rx => by_row(Place::Rx, bare, p),
+        Boundary::Uv => by_row(Place::Uv, bare, p),
+        Boundary::Wx => by_row(Place::Wx, bare, p),
     }
 }
 
@@ -111,11 +108,9 @@ pub fn bare_boundary(b: Boundary, p: MPa) -> f64
 }
 
 // The temperature at the boundary in K.
-pub fn T_atRegionBoundary(p: MPa, b: Boundary) -> Answer
+pub fn T_atRegionBoundary(p: MPa, b: Boundary) -> Result<f64, Refusal>
     ensures { paper result ≡ boundary_rule b p.0 }
 {
-    match check_only(p.0, P_FROM, P_TO) {
-        Verdict::Accepted => settle(raw_boundary(b, p)),
-        Verdict::Refused(k) => Answer::Refused(k),
-    }
+    check_only(p.0, P_RANGE)?;
+    settle(raw_boundary(b, p))
 }

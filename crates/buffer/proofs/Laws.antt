@@ -1,19 +1,22 @@
 -- Runs of stores joined, pieces joined, the bytes of a number and their room, and NaN patterns. Assumes nothing.
 use mathlib.Core.Path.{◌≡◌, refl, sym, ap, ◌∙◌}
 use mathlib.Core.Bool.{true, false}
-use mathlib.Core.List.{List, [], ◌∷◌, ◌++◌, append-nil}
-use Prim.Native.Nat.{ℕ, zero, suc, ◌+◌, ◌*◌, ◌-◌, ◌/◌, ◌%◌, ◌^◌, ◌≤◌}
-use native.Mathlib.Nat.{add-zero, add-suc, suc-add, mul-suc, div-one, div-div-eq-div-mul, pow-suc}
+use mathlib.Core.List.{List, [], ◌∷◌, ◌++◌, append-nil, append_assoc}
+use Prim.Native.Nat.{ℕ, zero, suc, ◌+◌, ◌*◌, ◌%◌, ◌≤◌, ◌<◌}
+use native.Mathlib.Nat.{add-zero, add_assoc, add-suc, suc-add, mul-suc}
 use native.Mathlib.Numerals.{add-one}
-use native.Mathlib.Decide.{dec_le}
 use native.Mathlib.Omega.{arith}
-use lib.Dec.{leb, ltb}
-use lib.ListN.{length, set, length-append, drop_of_length-le}
+use lib.Dec.{ltb, lit<}
+use lib.ListN.{length, get_or, set, take, drop, length-append, drop_of_length-le}
 use lib.Seq.{sets, sets-eq}
+use Rattle.std.proofs.lemmas.List.{drop-drop}
 use lib.Ieee.{Float, nan, inf, fin, Format, of_bits, is_nan, ones, hid, top}
 use lib.Ieee.Bits.{nan_bits_is, nan_bits_above}
-use borrow.Author.Tests.{le-leb, lt-leb}
-use Rattle.buffer.specs.Bytes.{joined, eight, placed}
+use borrow.Author.Tests.{le-leb}
+use borrow.Rule.Slice.PartMut.{put_mid}
+use mir.Syntax.{w32, w64}
+use Rattle.std.specs.Int.{from_le_bytes}
+use Rattle.buffer.specs.Bytes.{joined, half_at, word_at, placed}
 
 -- ---- runs of stores
 
@@ -60,31 +63,41 @@ pieces_more {A} f b size l m i k at e h =
     ∙ sets_then (joined f k) (f k) l i at (h ∙ ap (λ (n : ℕ). i + n) (sym (joined_length f b k size)))
     ∙ ap (λ (x : List A). sets l i x) (sym (joined_more f k))
 
--- ---- the bytes of a number
+-- bytes written over a part of a list
+pub put_mid_sets : {A : Type 0} (l xs : List A) (i k : ℕ) → k ≡ length xs → i + length xs ≤ length l → put_mid i k l xs ≡ sets l i xs
+put_mid_sets {A} l xs i k e h =
+    ap (λ (r : List A). take i l ++ (xs ++ r)) (drop-drop k i l ∙ ap (λ (n : ℕ). drop (i + n) l) e)
+    ∙ sym (append_assoc (take i l) xs (drop (i + length xs) l))
+    ∙ sym (sets-eq xs l i h)
 
--- the bytes 0 to k - 1, the little end first
-abbrev pub bytes_to : ℕ → ℕ → List ℕ
-bytes_to n k = joined (λ i. (n / 256 ^ i % 256) ∷ []) k
+-- ---- numbers read
 
-pub byte_next : (n k : ℕ) → n / 256 ^ k / 256 ≡ n / 256 ^ (k + 1)
-byte_next n k = div-div-eq-div-mul n (256 ^ k) 256 ∙ ap (λ (m : ℕ). n / m) (sym (ap (λ (m : ℕ). 256 ^ m) (add-one k) ∙ pow-suc 256 k))
+-- the bytes of an array are those of a list from an index on
+abbrev pub Copied : List ℕ → List ℕ → ℕ → ℕ → Type 0
+Copied b s at n = (i : ℕ) → i < n → get_or b i 0 ≡ get_or s (at + i) 0
 
-pub bytes_eight : (n : ℕ) → bytes_to n 8 ≡ eight n
-unfolding joined
-bytes_eight n = rw div-one
+pub word_read : (s b : List ℕ) (at : ℕ) → Copied b s at 8 → from_le_bytes w64 b ≡ word_at s at
+word_read s b at h =
+    let further : (k i : ℕ) → get_or s (at + (k + i)) 0 ≡ get_or s (at + k + i) 0 = λ k i. ap (λ (j : ℕ). get_or s j 0) (sym (add_assoc at k i)) in
+    omega (
+      arith,
+      h 0 (lit< tt) ∙ ap (λ (k : ℕ). get_or s k 0) (add-zero at),
+      h 1 (lit< tt),
+      h 2 (lit< tt),
+      h 3 (lit< tt),
+      h 4 (lit< tt),
+      h 5 (lit< tt) ∙ further 4 1,
+      h 6 (lit< tt) ∙ further 4 2,
+      h 7 (lit< tt) ∙ further 4 3,
+    )
 
--- ---- room
-
-pub lies_in : (a k n : ℕ) → k ≤ n → leb a (n - k) ≡ leb (a + k) n
-lies_in a k n h = go (dec_le a (n - k))
-  where
-    go : Dec (a ≤ n - k) → leb a (n - k) ≡ leb (a + k) n
-    go (yes l) = le-leb a (n - k) l ∙ sym (le-leb (a + k) n (omega arith))
-    go (no m) = lt-leb a (n - k) (omega (arith, m)) ∙ sym (lt-leb (a + k) n (omega (arith, m)))
+pub half_read : (s b : List ℕ) (at : ℕ) → Copied b s at 4 → from_le_bytes w32 b ≡ half_at s at
+half_read s b at h =
+    omega (arith, h 0 (lit< tt) ∙ ap (λ (k : ℕ). get_or s k 0) (add-zero at), h 1 (lit< tt), h 2 (lit< tt), h 3 (lit< tt))
 
 -- ---- NaN patterns
 
-only_nan : (x : Float) → is_nan x ≡ true → x ≡ nan
+pub only_nan : (x : Float) → is_nan x ≡ true → x ≡ nan
 unfolding is_nan
 only_nan nan e = refl
 only_nan (inf s) e = let z : false ≡ true = e in cc

@@ -13,9 +13,6 @@ lies_one κs a e x y p q = p ∙ sym q
 pub byte_at_one : One 1 own.byte_at.Kinds.ps own.byte_at.Kinds.r own.byte_at.Reads.Post
 byte_at_one κs a e x y p q = p ∙ sym q
 
-pub wide_one : One 0 own.wide.Kinds.ps own.wide.Kinds.r own.wide.Reads.Post
-wide_one κs a e x y p q = p.0 ∙ sym q.0
-
 pub int_at_one : One 1 own.int_at.Kinds.ps own.int_at.Kinds.r own.int_at.Reads.Post
 int_at_one κs a e x y p q = p ∙ sym q
 
@@ -24,6 +21,10 @@ float_of_one κs a e x y p q = p ∙ sym q
 
 pub float_at_one : One 1 own.float_at.Kinds.ps own.float_at.Kinds.r own.float_at.Reads.Post
 float_at_one κs a e x y p q = p ∙ sym q
+
+pub put_bytes_one : (κs : Lfts 2) (a : Dens κs own.put_bytes.Kinds.ps) (d e : AtExit (ended_of 2 own.put_bytes.Kinds.ps own.put_bytes.Kinds.r) κs) (x y : (res_t own.put_bytes.Kinds.r κs).Denot) →
+    own.put_bytes.Reads.Post κs a x d → own.put_bytes.Reads.Post κs a y e → d.0.now ≡ e.0.now
+put_bytes_one κs a d e x y p q = p ∙ sym q
 
 pub put_word_one : (κs : Lfts 1) (a : Dens κs own.put_word.Kinds.ps) (d e : AtExit (ended_of 1 own.put_word.Kinds.ps own.put_word.Kinds.r) κs) (x y : (res_t own.put_word.Kinds.r κs).Denot) →
     own.put_word.Reads.Post κs a x d → own.put_word.Reads.Post κs a y e → d.0.now ≡ e.0.now

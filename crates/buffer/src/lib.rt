@@ -1,69 +1,38 @@
 // Numbers in lent bytes, the little end first. A number of which a byte would lie past the end reads as 0, and is not written.
 #![tactic(auto)]
 
-ghost use Rattle.std.specs.Prelude.{◌≡◌, ◌+◌, ◌≤◌, ◌<◌, ◌^◌, leb, length, get_or};
-ghost use Rattle.std.proofs.lemmas.List.Edits.{sets};
+ghost use Rattle.std.specs.Prelude.{◌≡◌, ℕ, ◌+◌, ◌≤◌, ◌<◌, ◌^◌, leb, length, get_or, MatchOption};
 ghost use Rattle.std.specs.Float.{binary64};
 ghost use Rattle.std.specs.Float.Ieee.{of_bits, to_bits};
-ghost use Rattle.buffer.specs.Bytes.{half_at, word_at, signed, int_in, float_in, eight, placed};
+ghost use Rattle.buffer.specs.Bytes.{int_in, float_in, eight, placed};
 
 // Whether k bytes from an index on lie in n bytes.
 pub fn lies(at: usize, k: usize, n: usize) -> bool
     ensures { result ≡ leb (at + k) n }
 {
-    if k <= n { at <= n - k } else { false }
+    k <= n && at <= n - k
 }
 
 pub fn byte_at(s: &[u8], at: usize) -> u8
     ensures { result ≡ get_or s.now at 0 }
 {
-    if at < s.len() { s[at] } else { 0 }
+    s.get(at).copied().unwrap_or(0)
 }
 
-// A byte as a number, with its bound.
-pub fn wide(b: u8) -> u64
-    ensures { (result ≡ b) × (result < 256) }
+// The N bytes from an index on, where all of them lie in s.
+fn array_at<const N: usize>(s: &[u8], at: usize) -> Option<[u8; N]>
+    ensures { MatchOption result (length s.now < at + N) (λ b. (at + N ≤ length s.now) ×
+        ((i : ℕ) → i < N → get_or b i 0 ≡ get_or s.now (at + i) 0)) }
 {
-    b as u64
-}
-
-fn half_at(s: &[u8], at: usize) -> u64
-    requires { at + 4 ≤ length s.now }
-    ensures { (result ≡ half_at s.now at) × (result < 2 ^ 32) }
-{
-    let a = wide(s[at]);
-    let b = wide(s[at + 1]);
-    let c = wide(s[at + 2]);
-    let d = wide(s[at + 3]);
-    a + 256 * (b + 256 * (c + 256 * d))
-}
-
-fn word_at(s: &[u8], at: usize) -> u64
-    requires { at + 8 ≤ length s.now }
-    ensures { result ≡ word_at s.now at }
-{
-    half_at(s, at) + 0x1_0000_0000 * half_at(s, at + 4)
-}
-
-fn with_sign(n: u64) -> i32
-    requires { n < 2 ^ 32 }
-    ensures { result ≡ signed n }
-{
-    if n < 0x8000_0000 {
-        n as i32
-    } else {
-        (n as i64 - 0x1_0000_0000) as i32
-    }
+    s.get(at..)?.first_chunk().copied()
 }
 
 // Four bytes with a sign.
 pub fn int_at(s: &[u8], at: usize) -> i32
     ensures { result ≡ int_in s.now at }
 {
-    if lies(at, 4, s.len()) {
-        return with_sign(half_at(s, at));
-    }
-    0
+    let b = array_at(s, at).unwrap_or([0; 4]);
+    i32::from_le_bytes(b)
 }
 
 // The number of its bits. Every pattern of a NaN is the one NaN: from_bits is not defined there.
@@ -71,7 +40,7 @@ pub fn float_of(n: u64) -> f64
     ensures { result ≡ of_bits binary64 n }
 {
     if n % 0x8000_0000_0000_0000 > 0x7ff0_0000_0000_0000 {
-        return 0.0 / 0.0;
+        return f64::NAN;
     }
     f64::from_bits(n)
 }
@@ -79,22 +48,17 @@ pub fn float_of(n: u64) -> f64
 pub fn float_at(s: &[u8], at: usize) -> f64
     ensures { result ≡ float_in s.now at }
 {
-    if lies(at, 8, s.len()) {
-        return float_of(word_at(s, at));
-    }
-    0.0
+    let b = array_at(s, at).unwrap_or([0; 8]);
+    float_of(u64::from_le_bytes(b))
 }
 
-fn put_eight(out: &mut [u8], at: usize, n: u64)
-    requires { at + 8 ≤ length out.old }
-    ensures { out.new ≡ sets out.old at (eight n) }
+// Bytes from an index on, where all of them have room.
+// Kept: an index here and below: a reply's numbers have fixed places, and room for a part of one is left as it is.
+pub fn put_bytes(out: &mut [u8], at: usize, bytes: &[u8])
+    ensures { out.new ≡ placed out.old at bytes.now }
 {
-    let mut rest = n;
-    let mut k = 0;
-    while k < 8 {
-        out[at + k] = (rest % 256) as u8;
-        rest = rest / 256;
-        k += 1;
+    if lies(at, bytes.len(), out.len()) {
+        out[at..at + bytes.len()].copy_from_slice(bytes);
     }
 }
 
@@ -102,19 +66,17 @@ fn put_eight(out: &mut [u8], at: usize, n: u64)
 pub fn put_word(out: &mut [u8], at: usize, n: u64)
     ensures { out.new ≡ placed out.old at (eight n) }
 {
-    if lies(at, 8, out.len()) {
-        put_eight(out, at, n);
-    }
+    put_bytes(out, at, &n.to_le_bytes());
 }
 
 // The bits of a number. A NaN, whose bits are not one pattern, has the pattern of `to_bits`.
 fn bits(x: f64) -> u64
     ensures { result ≡ to_bits binary64 x }
 {
-    if x != x {
+    if x.is_nan() {
         0x7ff8_0000_0000_0000
     } else {
-        f64::to_bits(x)
+        x.to_bits()
     }
 }
 

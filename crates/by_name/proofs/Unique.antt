@@ -3,7 +3,7 @@
 use mathlib.Core.Path.{◌≡◌, refl}
 use borrow.Fn.Kinds.{Out}
 use Rattle.common.specs.Answer.{paper}
-use Rattle.common.proofs.Same.{One, same_answer}
+use Rattle.common.proofs.Same.{One, same_result}
 use Rattle.properties.specs.Td.{Formula, Td2v, Td2h, Td2s, Td2u, Td2cv, Td2cp, Td2w, state_pressure}
 use Rattle.extended.specs.Ext.{Td2f, Td2g, Td2kt, Td2ec, Td2joule, Td2iJTC, Td2dvdpct, Td2dpdtcv, Td2dvdtcp, Td2e, Td2fi}
 use Rattle.extended_with_p.specs.WithP.{Td2z, Td2ks, Td2pc, Td2batap, Td2fu, Td2alfap}
@@ -15,7 +15,7 @@ abbrev answers : Formula → Out 0 own.Td2p_reg3.Kinds.ps own.Td2p_reg3.Kinds.r
 answers f κs a x e = paper x ≡ called f a.0.0 a.1.0.0
 
 pub called_one : (f : Formula) → One 0 own.Td2p_reg3.Kinds.ps own.Td2p_reg3.Kinds.r (answers f)
-called_one f κs a e x y p q = same_answer _ x y p q
+called_one f κs a e x y p q = same_result _ x y p q
 
 pub by_name :
     (own.Td2p_reg3.Reads.Post ≡ answers state_pressure) × (own.Td2v_reg3.Reads.Post ≡ answers Td2v) × (own.Td2h_reg3.Reads.Post ≡ answers Td2h)

@@ -2,15 +2,15 @@
 // `Td_thermal_reg3` and `Td_ext_reg3` name.
 #![tactic(auto)]
 
-use common::Answer;
+use common::Refusal;
 
 mod property;
 
 pub use property::{Td_thermal_reg3, Td2cp_w_reg3};
 
-// What is asked of cp and w together: each a value or a refusal of its own.
+// What is asked of cp and w together: each a value or a refusal of its own. Kept: no one Result, since either may be refused without the other.
 #[derive(Clone, Copy)]
 pub struct CpW {
-    pub cp: Answer,
-    pub w: Answer,
+    pub cp: Result<f64, Refusal>,
+    pub w: Result<f64, Refusal>,
 }

@@ -7,8 +7,8 @@ ghost use Rattle.by_number.specs.Together.{paper_cp_w, cp_and_w_rule};
 
 use crate::CpW;
 use common::{
-    Answer, Kelvin, KgPerM3, OALFAP, OBETAP, OCP, OCV, ODPDT, ODVDP, ODVDT, OE, OEC, OF, OFI, OFU,
-    OG, OH, OIJTC, OJTC, OKS, OKT, OP, OPC, OS, OU, OV, OW, OZ, Refusal, Verdict, check_Td, settle,
+    Kelvin, KgPerM3, OALFAP, OBETAP, OCP, OCV, ODPDT, ODVDP, ODVDT, OE, OEC, OF, OFI, OFU, OG, OH,
+    OIJTC, OJTC, OKS, OKT, OP, OPC, OS, OU, OV, OW, OZ, Refusal, check_Td, settle,
 };
 use extended::{
     raw_dpdtcv, raw_dvdpct, raw_dvdtcp, raw_e, raw_ec, raw_f, raw_fi, raw_g, raw_iJTC, raw_joule,
@@ -18,17 +18,16 @@ use extended_with_p::{state_alfap, state_batap, state_fu, state_ks, state_pc, st
 use properties::{raw_cp_w, raw_cv, raw_h, raw_s, raw_u, raw_v, state_p};
 
 // The checks of the call, then what its formula answers.
-fn answered(t: Kelvin, d: KgPerM3, a: Answer) -> Answer
+#[tactic(auto, unfolding(crate::specs::Property::boxed))]
+fn answered(t: Kelvin, d: KgPerM3, a: Result<f64, Refusal>) -> Result<f64, Refusal>
     ensures { paper result ≡ boxed t.0 d.0 (paper a) }
 {
-    match check_Td(t, d) {
-        Verdict::Accepted => a,
-        Verdict::Refused(k) => Answer::Refused(k),
-    }
+    check_Td(t, d)?;
+    a
 }
 
 // The same of a formula's raw number.
-fn settled(t: Kelvin, d: KgPerM3, x: f64) -> Answer
+fn settled(t: Kelvin, d: KgPerM3, x: f64) -> Result<f64, Refusal>
     ensures { paper result ≡ boxed t.0 d.0 (check x) }
 {
     answered(t, d, settle(x))
@@ -47,7 +46,8 @@ pub fn Td2cp_w_reg3(t: Kelvin, d: KgPerM3) -> CpW
 }
 
 // A property by its number: 6 for any other number, before 1, 2, 3.
-pub fn Td_thermal_reg3(t: Kelvin, d: KgPerM3, o_id: i32) -> Answer
+// Kept: an i32 and one match over the 25 numbers, which are the Rust's and the C interface's, a form that docs/SCOPE names.
+pub fn Td_thermal_reg3(t: Kelvin, d: KgPerM3, o_id: i32) -> Result<f64, Refusal>
     ensures { paper result ≡ property_rule o_id t.0 d.0 }
 {
     match o_id {
@@ -76,6 +76,6 @@ pub fn Td_thermal_reg3(t: Kelvin, d: KgPerM3, o_id: i32) -> Answer
         OFI => settled(t, d, raw_fi(t, d)),
         OFU => answered(t, d, state_fu(t, d)),
         OALFAP => answered(t, d, state_alfap(t, d)),
-        _ => Answer::Refused(Refusal::Property),
+        _ => Err(Refusal::Property),
     }
 }

@@ -2,43 +2,41 @@
 // row a reply of 88 bytes on standard output. tools/sums_rows.py says how they lie.
 #![tactic(auto)]
 
-use reply::put_reply;
+use reply::Reply;
 use sum_rows::reply_to;
 
 // The loop ends by this number of rows, which no run reaches.
 const MOST: u64 = 0xffff_ffff_ffff_ffff;
 
-fn reply_bytes(row: &[u8], tables: &[u8]) -> [u8; 88] {
-    let mut out = [0u8; 88];
-    put_reply(&mut out, 0, reply_to(row, tables));
-    out
-}
-
 // The rows, each answered as it is read.
+// Kept: a loop of its own in each program: the words that it says and what it does with a row are its own, and little else is in it.
 fn answer_rows(rt: HostRuntime, tables: &[u8]) {
-    let mut done: u64 = 0;
-    while done < MOST {
-        let mut row = [0u8; 24];
+    let mut row = [0u8; 24];
+    for done in 0..MOST {
         let reading = stdio::read_until_full(
             rt,
             b"check_sums: standard input",
             &mut rt.stdin(),
             &mut row,
         );
-        let have = reading.have;
-        let stop = reading.stop;
-        if !pages::go_on(rt, b"check_sums: rows ", stop, done, have as u64) {
+        if !pages::go_on(
+            rt,
+            b"check_sums: rows ",
+            reading.stop,
+            done,
+            reading.have as u64,
+        ) {
             return;
         }
+        let answer: Reply = reply_to(&row, tables);
         if !stdio::send(
             rt,
             b"check_sums: writing",
             &mut rt.stdout(),
-            &reply_bytes(&row, tables),
+            &<[u8; 88]>::from(answer),
         ) {
             return;
         }
-        done += 1;
     }
 }
 
@@ -56,9 +54,13 @@ fn main(rt: HostRuntime) {
         &mut rt.stdin(),
         &mut tables,
     );
-    let have = reading.have;
-    let stop = reading.stop;
-    if pages::go_on(rt, b"check_sums: rows ", stop, 0, have as u64) {
+    if pages::go_on(
+        rt,
+        b"check_sums: rows ",
+        reading.stop,
+        0,
+        reading.have as u64,
+    ) {
         answer_rows(rt, &tables);
     }
 }

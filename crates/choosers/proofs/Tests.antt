@@ -1,5 +1,6 @@
 -- What the bands share: boundaries that may be lost are tested together, and a letter round the critical point is found or looked for inside.
 -- Assumes nothing.
+use Rattle.std.specs.Prelude.{Option, Some, None}
 use mathlib.Core.Path.{◌≡◌, refl}
 use mathlib.Core.Bool.{Bool, true, false, ◌&&◌, cond}
 use lib.Ieee.{Float, nan, inf, fin, le, lt}
@@ -7,8 +8,6 @@ use Rattle.common.specs.Outcome.{Outcome, value, refused, finite, check, then}
 use Rattle.subregion.specs.declared.Letter.{Letter}
 use Rattle.subregion.specs.declared.Letter.TheVariants.{C, K, Q, R}
 use Rattle.choosers.specs.Choosers.{around}
-use Rattle.choosers.specs.declared.letter_by.Near.{Near}
-use Rattle.choosers.specs.declared.letter_by.Near.TheVariants.{Found, Inside}
 
 -- A step on a number that may be lost, where what follows it is r if the test b passes and else refused with 5: so is the whole, if b and the
 -- number's own test pass.
@@ -20,16 +19,16 @@ gate (fin s m e) f b r h = h
 -- ---- round the critical point
 
 -- a letter that was found, or else o
-abbrev pub or_inside : Near → Outcome Letter → Outcome Letter
-or_inside (Found l) o = value l
-or_inside Inside o = o
+abbrev pub or_inside : Option Letter → Outcome Letter → Outcome Letter
+or_inside (Some l) o = value l
+or_inside None o = o
 
-around_picks : (a b c d : Bool) (o : Outcome Letter) → cond a (value C) (cond b (value Q) (cond c (value R) (cond d (value K) o))) ≡ or_inside (cond a (Found C) (cond b (Found Q) (cond c (Found R) (cond d (Found K) Inside)))) o
+around_picks : (a b c d : Bool) (o : Outcome Letter) → cond a (value C) (cond b (value Q) (cond c (value R) (cond d (value K) o))) ≡ or_inside (cond a (Some C) (cond b (Some Q) (cond c (Some R) (cond d (Some K) None)))) o
 around_picks true b c d o = refl
 around_picks false true c d o = refl
 around_picks false false true d o = refl
 around_picks false false false true o = refl
 around_picks false false false false o = refl
 
-pub around_or : (tcd tqu trx tjk t : Float) (o : Outcome Letter) → around tcd tqu trx tjk t value o ≡ or_inside (around tcd tqu trx tjk t Found Inside) o
+pub around_or : (tcd tqu trx tjk t : Float) (o : Outcome Letter) → around tcd tqu trx tjk t value o ≡ or_inside (around tcd tqu trx tjk t Some None) o
 around_or tcd tqu trx tjk t o = around_picks (le t tcd) (le t tqu) (lt trx t && le t tjk) (lt tjk t) o

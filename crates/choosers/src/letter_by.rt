@@ -1,31 +1,17 @@
 // The choosers: a letter by t, from the numbers of the boundaries that t is held against, whatever these are.
-// Each is written from its last letter back: from_x is the letter of a t that lies beyond the letters before x.
-ghost use Rattle.std.specs.Prelude.{◌≡◌, ◌&&◌, cond};
-ghost use Rattle.std.specs.Float.Ieee.{le, lt};
+// Kept: a function for each band, with its boundaries by their names, as docs/SCOPE.md has them; one over lists of boundaries and letters is no plainer.
+ghost use Rattle.std.specs.Prelude.{◌≡◌, cond};
+ghost use Rattle.std.specs.Float.Ieee.{le};
 ghost use Rattle.choosers.specs.Choosers.{ab_by, cdef_by, chijk_by, clmnopjk_by, csrk_by, cst_by, ct_by, around, uvwx_by, uyzx_by, liquid_by, steam_by, saturated_by};
 
 use common::{Kelvin, MPa};
 use subregion::Letter;
-
-// Round the critical point: a letter, or the near-critical ones.
-#[derive(Clone, Copy)]
-pub enum Near {
-    Found(Letter),
-    Inside,
-}
 
 // l up to the boundary, which belongs to it, and `beyond` above.
 fn upto(b: f64, l: Letter, beyond: Letter, t: f64) -> Letter
     ensures { result ≡ cond (le t b) l beyond }
 {
     if t <= b { l } else { beyond }
-}
-
-// l strictly below the boundary.
-fn under(b: f64, l: Letter, beyond: Letter, t: f64) -> Letter
-    ensures { result ≡ cond (lt t b) l beyond }
-{
-    if t < b { l } else { beyond }
 }
 
 pub fn by_ab(tab: Kelvin, t: Kelvin) -> Letter
@@ -37,12 +23,19 @@ pub fn by_ab(tab: Kelvin, t: Kelvin) -> Letter
 pub fn by_cdef(tcd: Kelvin, tab: Kelvin, tef: Kelvin, t: Kelvin) -> Letter
     ensures { result ≡ cdef_by tcd.0 tab.0 tef.0 t.0 }
 {
-    let from_e = upto(tef.0, Letter::E, Letter::F, t.0);
-    let from_d = upto(tab.0, Letter::D, from_e, t.0);
-    upto(tcd.0, Letter::C, from_d, t.0)
+    if t.0 <= tcd.0 {
+        Letter::C
+    } else if t.0 <= tab.0 {
+        Letter::D
+    } else if t.0 <= tef.0 {
+        Letter::E
+    } else {
+        Letter::F
+    }
 }
 
-// Above 23 MPa up to 25: second is g or l.
+// Above 23 MPa up to 25: second is g or l. Written from its last letter back: from_x is the letter of a t that lies beyond the letters before x.
+// Kept: tried as a chain of ifs, this and by_clmnopjk compile to a branch at each boundary, and a letter of the box takes 3 ns more, of 14 and of 77.
 pub fn by_chijk(
     second: Letter,
     tcd: Kelvin,
@@ -85,16 +78,27 @@ pub fn by_clmnopjk(
 pub fn by_csrk(tcd: Kelvin, tsat: Kelvin, tjk: Kelvin, t: Kelvin) -> Letter
     ensures { result ≡ csrk_by tcd.0 tsat.0 tjk.0 t.0 }
 {
-    let from_r = upto(tjk.0, Letter::R, Letter::K, t.0);
-    let from_s = upto(tsat.0, Letter::S, from_r, t.0);
-    upto(tcd.0, Letter::C, from_s, t.0)
+    if t.0 <= tcd.0 {
+        Letter::C
+    } else if t.0 <= tsat.0 {
+        Letter::S
+    } else if t.0 <= tjk.0 {
+        Letter::R
+    } else {
+        Letter::K
+    }
 }
 
 pub fn by_cst(tcd: Kelvin, tsat: Kelvin, t: Kelvin) -> Letter
     ensures { result ≡ cst_by tcd.0 tsat.0 t.0 }
 {
-    let from_s = upto(tsat.0, Letter::S, Letter::T, t.0);
-    upto(tcd.0, Letter::C, from_s, t.0)
+    if t.0 <= tcd.0 {
+        Letter::C
+    } else if t.0 <= tsat.0 {
+        Letter::S
+    } else {
+        Letter::T
+    }
 }
 
 pub fn by_ct(tsat: Kelvin, t: Kelvin) -> Letter
@@ -103,55 +107,59 @@ pub fn by_ct(tsat: Kelvin, t: Kelvin) -> Letter
     upto(tsat.0, Letter::C, Letter::T, t.0)
 }
 
-// Above one boundary and up to the other.
-fn between(from: f64, to: f64, t: f64) -> bool
-    ensures { result ≡ (lt from t && le t to) }
+// Round the critical point, or none where the near-critical letters are chosen from.
+pub fn round_critical(
+    tcd: Kelvin,
+    tqu: Kelvin,
+    trx: Kelvin,
+    tjk: Kelvin,
+    t: Kelvin,
+) -> Option<Letter>
+    ensures { result ≡ around tcd.0 tqu.0 trx.0 tjk.0 t.0 Some None }
 {
-    t > from && t <= to
-}
-
-// Round the critical point, of bare numbers.
-fn round_by(tcd: f64, tqu: f64, trx: f64, tjk: f64, t: f64) -> Near
-    ensures { result ≡ around tcd tqu trx tjk t Near.Found Near.Inside }
-{
-    if t <= tcd {
-        return Near::Found(Letter::C);
+    if t.0 <= tcd.0 {
+        return Some(Letter::C);
     }
-    if t <= tqu {
-        return Near::Found(Letter::Q);
+    if t.0 <= tqu.0 {
+        return Some(Letter::Q);
     }
-    if between(trx, tjk, t) {
-        return Near::Found(Letter::R);
+    if t.0 > trx.0 && t.0 <= tjk.0 {
+        return Some(Letter::R);
     }
-    if t > tjk {
-        return Near::Found(Letter::K);
+    if t.0 > tjk.0 {
+        return Some(Letter::K);
     }
-    Near::Inside
-}
-
-// Round the critical point.
-pub fn round_critical(tcd: Kelvin, tqu: Kelvin, trx: Kelvin, tjk: Kelvin, t: Kelvin) -> Near
-    ensures { result ≡ around tcd.0 tqu.0 trx.0 tjk.0 t.0 Near.Found Near.Inside }
-{
-    round_by(tcd.0, tqu.0, trx.0, tjk.0, t.0)
+    None
 }
 
 // Above 22.11 MPa.
 pub fn by_uvwx(tuv: Kelvin, tef: Kelvin, twx: Kelvin, t: Kelvin) -> Letter
     ensures { result ≡ uvwx_by tuv.0 tef.0 twx.0 t.0 }
 {
-    let from_w = under(twx.0, Letter::W, Letter::X, t.0);
-    let from_v = under(tef.0, Letter::V, from_w, t.0);
-    upto(tuv.0, Letter::U, from_v, t.0)
+    if t.0 <= tuv.0 {
+        Letter::U
+    } else if t.0 < tef.0 {
+        Letter::V
+    } else if t.0 < twx.0 {
+        Letter::W
+    } else {
+        Letter::X
+    }
 }
 
 // Above 22.064 MPa.
 pub fn by_uyzx(tuv: Kelvin, tef: Kelvin, twx: Kelvin, t: Kelvin) -> Letter
     ensures { result ≡ uyzx_by tuv.0 tef.0 twx.0 t.0 }
 {
-    let from_z = upto(twx.0, Letter::Z, Letter::X, t.0);
-    let from_y = upto(tef.0, Letter::Y, from_z, t.0);
-    upto(tuv.0, Letter::U, from_y, t.0)
+    if t.0 <= tuv.0 {
+        Letter::U
+    } else if t.0 <= tef.0 {
+        Letter::Y
+    } else if t.0 <= twx.0 {
+        Letter::Z
+    } else {
+        Letter::X
+    }
 }
 
 // Up to 22.064 MPa: liquid up to the saturation temperature, steam above it.
@@ -159,7 +167,7 @@ fn by_liquid(tuv: f64, p: f64, t: f64) -> Letter
     ensures { result ≡ liquid_by tuv p t }
 {
     if p > 21.93161551 {
-        under(tuv, Letter::U, Letter::Y, t)
+        if t < tuv { Letter::U } else { Letter::Y }
     } else {
         Letter::U
     }
@@ -169,7 +177,7 @@ fn by_steam(twx: f64, p: f64, t: f64) -> Letter
     ensures { result ≡ steam_by twx p t }
 {
     if p > 21.90096265 {
-        under(twx, Letter::Z, Letter::X, t)
+        if t < twx { Letter::Z } else { Letter::X }
     } else {
         Letter::X
     }

@@ -4,6 +4,6 @@
 mod letter_by;
 
 pub use letter_by::{
-    Near, by_ab, by_cdef, by_chijk, by_clmnopjk, by_csrk, by_cst, by_ct, by_saturated, by_uvwx,
-    by_uyzx, round_critical,
+    by_ab, by_cdef, by_chijk, by_clmnopjk, by_csrk, by_cst, by_ct, by_saturated, by_uvwx, by_uyzx,
+    round_critical,
 };

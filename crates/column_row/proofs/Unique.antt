@@ -6,9 +6,6 @@ use Rattle.column_row.proofs as own
 pub mark_one : One 0 own.mark.Kinds.ps own.mark.Kinds.r own.mark.Reads.Post
 mark_one κs a e x y p q = p ∙ sym q
 
-pub stop_one : One 0 own.stop.Kinds.ps own.stop.Kinds.r own.stop.Reads.Post
-stop_one κs a e x y p q = p ∙ sym q
-
 pub line_of_one : One 0 own.line_of.Kinds.ps own.line_of.Kinds.r own.line_of.Reads.Post
 line_of_one κs a e x y p q = p ∙ sym q
 

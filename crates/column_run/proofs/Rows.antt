@@ -35,7 +35,8 @@ module _ {A : Type 0} (f : Float → Float → A) (d : A) where
     pub filled_none : (xs : List A) → length xs ≡ length ps → Filled ps ts 0 xs
     filled_none xs e = record { long = e; each = below_none (λ i. get_or xs i d ≡ f (get_or ps i nan) (get_or ts i nan)) }
 
-    pub filled_more : (k : ℕ) (xs : List A) (v : A) → k < length ps → Filled ps ts k xs → v ≡ f (get_or ps k nan) (get_or ts k nan) → Filled ps ts (k + 1) (set xs k v)
+    pub filled_more : (k : ℕ) (xs : List A) (v : A) → k < length ps → Filled ps ts k xs
+        → v ≡ f (get_or ps k nan) (get_or ts k nan) → Filled ps ts (k + 1) (set xs k v)
     filled_more k xs v h w e =
         let g : k < length xs = let l = w.long in omega arith in
         record {
@@ -59,7 +60,8 @@ module _ {A : Type 0} (f : Float → Float → A) (d : A) where
     left_all xs e h = record { each = λ i _ l. rw h (rows_at ps ts i l (omega arith)) }
 
     pub left_less : (k : ℕ) (xs : List A) (v : A) → Left ps ts k xs → Left ps ts (k + 1) (set xs k v)
-    left_less k xs v w = record { each = λ i h l. get_or-set_other xs k i v d (λ q. let z : ◌≡◌ {A = ℕ} i k = q in absurd (omega arith)) ∙ w.each i (omega arith) l }
+    left_less k xs v w =
+        record { each = λ i h l. get_or-set_other xs k i v d (λ q. let z : ◌≡◌ {A = ℕ} i k = q in absurd (omega arith)) ∙ w.each i (omega arith) l }
 
   pub rows_long : (ps ts : List Float) (xs : List A) → length ts ≡ length ps → xs ≡ rows_by f ps ts → length xs ≡ length ps
   rows_long ps ts xs e h = ap length h ∙ rows_length ps ts e

@@ -1,18 +1,16 @@
 -- The powers that are worked for a table's columns cover its rows. In order: the most of a column, an exponent whose power is differentiated, a column, the
--- rows, and a loop over a column. Assumes nothing.
+-- rows, and the highest and the lowest exponent of a column. Assumes nothing.
 use mathlib.Core.Path.{◌≡◌, refl, sym, ap, ◌∙◌}
 use mathlib.Core.Bool.{Bool, true, false, cond, ◌&&◌}
 use mathlib.Core.List.{List, [], ◌∷◌}
-use Prim.Native.Nat.{ℕ, zero, suc, ◌+◌, ◌-◌, ◌^◌, ◌<◌, ◌≤◌}
+use Prim.Native.Nat.{ℕ, zero, suc, ◌+◌, ◌-◌, ◌<◌, ◌≤◌}
 use native.Mathlib.Omega.{arith}
-use native.Mathlib.Numerals.{add-one}
 use lib.Dec.{T, ltb, leb, leb→le, le→leb, lt→ltb}
 use lib.IntN.{ℤ, pos, negsuc, neg_ℤ, nat_abs, ◌-ℤ◌}
-use lib.ListN.{length, drop, get_or, drop_of_length-le}
-use lib.Seq.{drop-cons}
-use lib.Signed.{mag, lt_z}
 use lib.Ieee.{Float}
 use borrow.Author.Tests.{ltb-true, ltb-false, lt-ltb, le-ltb}
+use Rattle.std.specs.List.{fold}
+use Rattle.std.specs.Int.{int_max, int_min}
 use Rattle.common.specs.Sum.{every}
 use Rattle.common.proofs.Sums.{both_left, both_right}
 use Rattle.powers.specs.Reach.{spans}
@@ -103,11 +101,6 @@ column_spans d ks =
     spans_of (ups d ks) (downs d ks) (left d k) (omega (arith, m.up)) (omega (arith, m.down)))
     ks (each up_of 0 ks) (each down_of 0 ks)
 
-pub steps_few : (d : Order) → steps d ≤ 2
-steps_few Zero = omega arith
-steps_few One = omega arith
-steps_few Two = omega arith
-
 -- ---- the rows
 
 module _ (f : Row → Bool) (p q : ℤ → Bool) where
@@ -127,33 +120,33 @@ covered a b is js ns =
     (λ i j n s t. both_make (spans (ups a is) (downs a is) (left a i)) (spans (ups b js) (downs b js) (left b j)) s t)
     is js ns (column_spans a is) (column_spans b js)
 
--- ---- a loop over a column
-
-down_small : (d : ℕ) (z : ℤ) → d ≤ 2 ^ 31 → mag z < 2 ^ 31 → most d (down_of z) ≤ 2 ^ 31
-down_small d (pos k) h l = (most_says d 0).least (2 ^ 31) h (omega arith)
-down_small d (negsuc k) h l = (most_says d (suc k)).least (2 ^ 31) h l
-
-farthest_more : (f : ℤ → ℕ) (u : ℕ) (ks : List ℤ) (k : ℕ) → k < length ks → farthest f u (drop k ks) ≡ farthest f (most u (f (get_or ks k (pos 0)))) (drop (k + 1) ks)
-unfolding farthest
-farthest_more f u ks k h = rw (add-one, drop-cons ks k (pos 0) h)
-
-farthest_done : (f : ℤ → ℕ) (u : ℕ) (ks : List ℤ) (k : ℕ) → length ks ≤ k → farthest f u (drop k ks) ≡ u
-unfolding farthest
-farthest_done f u ks k h = rw (drop_of_length-le ks {i = k} h)
+-- ---- the highest and the lowest exponent of a column, by 0
 
 most_zero : (u : ℕ) → most u 0 ≡ u
 most_zero u = rw (le-ltb u 0 (omega arith))
 
--- the higher of an exponent and one that is 0 or above, and the lower of it and one that is 0 or below
-higher : (u : ℕ) (z : ℤ) → cond (lt_z (pos u) z) z (pos u) ≡ pos (most u (up_of z))
-higher u (pos k) = by (ltb u k) refl
+-- of two counts it does not matter which is taken where they are one
+most_by : (u k : ℕ) → cond (ltb k u) u k ≡ most u k
+most_by u k = by (ltb k u) (ltb u k) refl refl
   where
-    by : (b : Bool) → ltb u k ≡ b → cond (ltb u k) (pos k) (pos u) ≡ pos (most u k)
-    by true e = rw e
-    by false e = rw e
+    by : (s t : Bool) → ltb k u ≡ s → ltb u k ≡ t → cond (ltb k u) u k ≡ most u k
+    by true t e f = let l : k < u = ltb-true k u e in rw (e, le-ltb u k (omega arith))
+    by false true e f = rw (e, f)
+    by false false e f =
+        let l : u ≤ k = ltb-false k u e in
+        let m : k ≤ u = ltb-false u k f in
+        let same : u ≡ k = omega arith in
+        rw (e, f, same)
+
+higher : (u : ℕ) (z : ℤ) → int_max (pos u) z ≡ pos (most u (up_of z))
+higher u (pos k) = cases_of (ltb k u) u k ∙ ap pos (most_by u k)
+  where
+    cases_of : (b : Bool) (u k : ℕ) → cond b (pos u) (pos k) ≡ pos (cond b u k)
+    cases_of true u k = refl
+    cases_of false u k = refl
 higher u (negsuc k) = ap pos (sym (most_zero u))
 
-lower : (d : ℕ) (z : ℤ) → cond (lt_z z (neg_ℤ (pos d))) z (neg_ℤ (pos d)) ≡ neg_ℤ (pos (most d (down_of z)))
+lower : (d : ℕ) (z : ℤ) → int_min (neg_ℤ (pos d)) z ≡ neg_ℤ (pos (most d (down_of z)))
 lower zero (pos k) = rw (le-ltb k 0 (omega arith))
 lower zero (negsuc k) = rw (lt-ltb 0 (suc k) (omega arith))
 lower (suc d) (pos k) = ap (λ (n : ℕ). neg_ℤ (pos n)) (sym (most_zero (suc d)))
@@ -163,39 +156,18 @@ lower (suc d) (negsuc k) = by (ltb d k) refl
     by true e = let l : d < k = ltb-true d k e in rw (e, lt-ltb (suc d) (suc k) (omega arith))
     by false e = let l : k ≤ d = ltb-false d k e in rw (e, le-ltb (suc d) (suc k) (omega arith))
 
--- what a loop knows of the rows that it passed: how far they go up and down, as the highest and the lowest exponent
-pub record Passed (ks : List ℤ) (k : ℕ) (top low : ℤ) : Type 0 where
-  pub up : ℕ
-  pub down : ℕ
-  pub top_is : top ≡ pos up
-  pub low_is : low ≡ neg_ℤ (pos down)
-  pub rises : farthest up_of up (drop k ks) ≡ farthest up_of 0 ks
-  pub falls : farthest down_of down (drop k ks) ≡ farthest down_of 0 ks
-  pub small : down ≤ 2 ^ 31
+top_is : (u : ℕ) (ks : List ℤ) → fold int_max (pos u) ks ≡ pos (farthest up_of u ks)
+unfolding farthest
+top_is u [] = refl
+top_is u (k ∷ ks) = ap (λ (z : ℤ). fold int_max z ks) (higher u k) ∙ top_is (most u (up_of k)) ks
 
-pub passed_none : (ks : List ℤ) → Passed ks 0 (pos 0) (pos 0)
-passed_none ks = record { up = 0; down = 0; top_is = refl; low_is = refl; rises = refl; falls = refl; small = omega arith }
+low_is : (d : ℕ) (ks : List ℤ) → fold int_min (neg_ℤ (pos d)) ks ≡ neg_ℤ (pos (farthest down_of d ks))
+unfolding farthest
+low_is d [] = refl
+low_is d (k ∷ ks) = ap (λ (z : ℤ). fold int_min z ks) (lower d k) ∙ low_is (most d (down_of k)) ks
 
-pub passed_more : (ks : List ℤ) (k : ℕ) (top low top' low' : ℤ) → k < length ks → mag (get_or ks k (pos 0)) < 2 ^ 31
-    → top' ≡ cond (lt_z top (get_or ks k (pos 0))) (get_or ks k (pos 0)) top → low' ≡ cond (lt_z (get_or ks k (pos 0)) low) (get_or ks k (pos 0)) low
-    → Passed ks k top low → Passed ks (k + 1) top' low'
-passed_more ks k top low top' low' h l p q w =
-    let z = get_or ks k (pos 0) in
-    record {
-      up = most w.up (up_of z);
-      down = most w.down (down_of z);
-      top_is = p ∙ rw w.top_is (higher w.up z);
-      low_is = q ∙ rw w.low_is (lower w.down z);
-      rises = sym (farthest_more up_of w.up ks k h) ∙ w.rises;
-      falls = sym (farthest_more down_of w.down ks k h) ∙ w.falls;
-      small = down_small w.down z w.small l;
-    }
+pub up_from_top : (ks : List ℤ) (z : ℤ) → z ≡ fold int_max (pos 0) ks → nat_abs z ≡ farthest up_of 0 ks
+up_from_top ks z e = ap nat_abs (e ∙ top_is 0 ks)
 
-pub passed_all : (ks : List ℤ) (k : ℕ) (top low : ℤ) → length ks ≤ k → Passed ks k top low
-    → (nat_abs top ≡ farthest up_of 0 ks) × (nat_abs low ≡ farthest down_of 0 ks) × (nat_abs low ≤ 2 ^ 31)
-passed_all ks k top low h w =
-    let e : nat_abs low ≡ w.down = ap nat_abs w.low_is ∙ neg_abs w.down in (
-      ap nat_abs w.top_is ∙ sym (farthest_done up_of w.up ks k h) ∙ w.rises,
-      e ∙ sym (farthest_done down_of w.down ks k h) ∙ w.falls,
-      omega (arith, w.small),
-    )
+pub down_from_low : (ks : List ℤ) (z : ℤ) → z ≡ fold int_min (pos 0) ks → nat_abs z ≡ farthest down_of 0 ks
+down_from_low ks z e = ap nat_abs (e ∙ low_is 0 ks) ∙ neg_abs (farthest down_of 0 ks)

@@ -1,12 +1,11 @@
 // How far the exponents of a column go, so that no more powers are worked than it takes.
-ghost use Rattle.std.specs.Prelude.{◌≡◌, ◌-◌, ◌^◌, ◌≤◌, replicate};
+ghost use Rattle.std.specs.Prelude.{◌≡◌, ◌^◌, ◌≤◌, replicate};
 ghost use Rattle.common.specs.Outcome.{zero_f};
 ghost use Rattle.powers.specs.Powers.{Powers};
 ghost use Rattle.column_sums.specs.Farthest.{steps, up_of, down_of, farthest, ups, downs};
 
 use algo::Order;
 use powers::fill_powers;
-use rules::magnitude;
 
 #[derive(Clone, Copy)]
 struct Span {
@@ -17,40 +16,22 @@ struct Span {
 fn step_count(d: Order) -> u32
     ensures { result ≡ steps d }
 {
-    match d {
-        Order::Zero => 0,
-        Order::One => 1,
-        Order::Two => 2,
-    }
+    d as u32
 }
 
 fn span_of(column: &[i32]) -> Span
     ensures { (result.up ≡ farthest up_of 0 column.now) × (result.down ≡ farthest down_of 0 column.now) × (result.down ≤ 2 ^ 31) }
 {
-    let mut top: i32 = 0;
-    let mut low: i32 = 0;
-    let mut k = 0;
-    while k < column.len() {
-        let n = column[k];
-        if top < n {
-            top = n;
-        }
-        if n < low {
-            low = n;
-        }
-        k += 1;
+    let mut top = 0i32;
+    let mut low = 0i32;
+    for n in column {
+        top = top.max(*n);
+        low = low.min(*n);
     }
     Span {
-        up: magnitude(top),
-        down: magnitude(low),
+        up: top.unsigned_abs(),
+        down: low.unsigned_abs(),
     }
-}
-
-// n - s, or 0.
-fn rest(n: u32, s: u32) -> u32
-    ensures { result ≡ n - s }
-{
-    if n < s { 0 } else { n - s }
 }
 
 // The powers of v that a column names, differentiated so often; zeros in all other places.
@@ -60,6 +41,6 @@ pub fn powers_for(v: f64, d: Order, column: &[i32]) -> [f64; 129]
     let mut w = [0.0; 129];
     let span = span_of(column);
     let s = step_count(d);
-    fill_powers(v, rest(span.up, s), span.down + s, &mut w);
+    fill_powers(v, span.up.saturating_sub(s), span.down + s, &mut w);
     w
 }

@@ -1,20 +1,21 @@
--- A call whose arguments were tested goes on with its steps, or answers the test's refusal; and a call that answers a value went through every step.
+-- A call whose first step is handed on by `?` goes on with its steps, or answers that step's refusal; and a call that answers a value went through every step.
 -- Assumes nothing.
-use mathlib.Core.Path.{◌≡◌, refl}
+use mathlib.Core.Path.{◌≡◌, refl, sym}
 use Prim.Native.Nat.{ℕ}
 use native.Mathlib.Omega.{arith}
 use Rattle.common.specs.Outcome.{Outcome, value, refused, then}
-use Rattle.common.specs.Answer.{paper_verdict, number_of}
+use Rattle.std.specs.Prelude.{Result, IsErrAnd}
+use Rattle.std.proofs.lemmas.Result.{err_from_is_err_and}
+use Rattle.common.specs.Answer.{paper, number_of}
 use Rattle.common.specs.declared.Refusal.{Refusal}
-use Rattle.common.specs.declared.Verdict.{Verdict}
-use Rattle.common.specs.declared.Verdict.TheVariants.{Accepted, Refused}
 
-module _ {v : Verdict} {o : Outcome Unit} (test : paper_verdict v ≡ o) where
-  pub going_on : {A : Type 0} (s : Outcome A) → v ≡ Accepted → then o (λ _. s) ≡ s
-  going_on s h = rw (← test, h)
+-- a call whose first step was `s()?`: it goes on from the step's value, or passes its refusal on
+module _ {A B : Type 0} {o : Outcome A} where
+  pub went_in : {x : A} (f : A → Outcome B) → value x ≡ o → then o f ≡ f x
+  went_in f e = rw (sym e)
 
-  pub turned_away : {A : Type 0} (s : Outcome A) (k : Refusal) → v ≡ Refused k → then o (λ _. s) ≡ refused (number_of k)
-  turned_away s k h = rw (← test, h)
+  pub passed_on : (f : A → Outcome B) (r : Result B Refusal) (k : Refusal) → IsErrAnd r (λ e. e ≡ k) → refused (number_of k) ≡ o → paper r ≡ then o f
+  passed_on f r k h e = let p = err_from_is_err_and r h in rw (p.1, p.2) (rw (sym e))
 
 -- a refusal is no value
 pub no_value : {A : Type 0} {x : A} {k : ℕ} → ◌≡◌ {A = Outcome A} (refused k) (value x) → ⊥

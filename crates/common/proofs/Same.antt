@@ -3,18 +3,14 @@ use mathlib.Core.Path.{◌≡◌, refl, sym, ap, ◌∙◌}
 use Prim.Native.Nat.{ℕ}
 use mathlib.Core.List.{List, [], ◌∷◌}
 use lib.ListN.{get_or}
-use lib.Ieee.{Float}
 use contract.Lifetimes.{Lfts}
 use denote.Triple.Clauses.{AtExit}
 use borrow.Fn.Kinds.{ParamKind, ResultKind, Out, Dens, ended_of, res_t}
 use Rattle.common.specs.Outcome.{Outcome, value, refused}
-use Rattle.common.specs.Answer.{paper, paper_verdict, number_of}
+use Rattle.std.specs.Prelude.{Result, Ok, Err}
+use Rattle.common.specs.Answer.{paper, number_of}
 use Rattle.common.specs.declared.Refusal.{Refusal}
 use Rattle.common.specs.declared.Refusal.TheVariants.{NotFinite, First, Second, State, Step, Property, Columns, Border, Unfound}
-use Rattle.common.specs.declared.Answer.{Answer}
-use Rattle.common.specs.declared.Answer.TheVariants as answer
-use Rattle.common.specs.declared.Verdict.{Verdict}
-use Rattle.common.specs.declared.Verdict.TheVariants as verdicts
 
 -- the refusals by their numbers, from 0 on; Step stands where no refusal has the number
 kinds : List Refusal
@@ -42,29 +38,18 @@ kind_number Unfound = refl
 pub same : {R O : Type 0} (f : R → O) (g : O → R) → ((r : R) → g (f r) ≡ r) → (o : O) (r s : R) → f r ≡ o → f s ≡ o → r ≡ s
 same f g back o r s p q = sym (back r) ∙ ap g (p ∙ sym q) ∙ back s
 
-answer_of : Outcome Float → Answer
-answer_of (value x) = answer.Value x
-answer_of (refused k) = answer.Refused (kind_of k)
+module _ {A : Type 0} where
+  result_of : Outcome A → Result A Refusal
+  result_of (value x) = Ok x
+  result_of (refused k) = Err (kind_of k)
 
-answer_back : (r : Answer) → answer_of (paper r) ≡ r
-unfolding answer_of
-answer_back (answer.Value x) = refl
-answer_back (answer.Refused k) = ap answer.Refused (kind_number k)
+  result_back : (r : Result A Refusal) → result_of (paper r) ≡ r
+  unfolding result_of
+  result_back (Ok x) = refl
+  result_back (Err k) = ap Err (kind_number k)
 
-pub same_answer : (o : Outcome Float) (r s : Answer) → paper r ≡ o → paper s ≡ o → r ≡ s
-same_answer = same paper answer_of answer_back
-
-verdict_of : Outcome Unit → Verdict
-verdict_of (value x) = verdicts.Accepted
-verdict_of (refused k) = verdicts.Refused (kind_of k)
-
-verdict_back : (r : Verdict) → verdict_of (paper_verdict r) ≡ r
-unfolding verdict_of
-verdict_back verdicts.Accepted = refl
-verdict_back (verdicts.Refused k) = ap verdicts.Refused (kind_number k)
-
-pub same_verdict : (o : Outcome Unit) (r s : Verdict) → paper_verdict r ≡ o → paper_verdict s ≡ o → r ≡ s
-same_verdict = same paper_verdict verdict_of verdict_back
+  pub same_result : (o : Outcome A) (r s : Result A Refusal) → paper r ≡ o → paper s ≡ o → r ≡ s
+  same_result = same paper result_of result_back
 
 -- of any arguments, a contract admits one result (for a function with no `&mut`)
 abbrev pub One : (n : ℕ) (ps : List (ParamKind n)) (r : ResultKind n) → Out n ps r → Type 0

@@ -1,93 +1,110 @@
-// What every layer shares: the units, the refusals, the answer for one number, the ranges and the constants.
+// What every layer shares: the units, the refusals and what an answer says, the ranges and the constants.
 // What each answer means is in specs/Answer.antt, the ranges in specs/Range.antt, the constants in specs/Constant.antt, the property numbers in
 // specs/Property.antt.
 #![tactic(auto)]
 
-ghost use Rattle.std.specs.Prelude.{◌≡◌, min};
+ghost use Rattle.std.specs.Prelude.{◌≡◌};
 ghost use Rattle.common.specs.Outcome.{finite, check, or_nan, number_in};
 ghost use Rattle.common.specs.Formula.{size_of, raw_over};
-ghost use Rattle.common.specs.Answer.{number_of, paper, paper_verdict};
+ghost use Rattle.common.specs.Answer.{number_of, paper};
 ghost use Rattle.common.specs.Range.{within, only_rule, pair_rule, Td_box, hs_box, pT_box, ph_box, ps_box};
 ghost use Rattle.common.specs.Property.{property_numbers};
 ghost use Rattle.common.specs.Constant.{printed, p_range_from, p_range_to, t_range_from, t_range_to, d_range_from, d_range_to};
 
 // A pressure.
-#[derive(Clone, Copy)]
+#[derive(Clone, Copy, Debug, PartialEq)]
 pub struct MPa(pub f64);
 
 // A temperature.
-#[derive(Clone, Copy)]
+#[derive(Clone, Copy, Debug, PartialEq)]
 pub struct Kelvin(pub f64);
 
 // A density.
-#[derive(Clone, Copy)]
+#[derive(Clone, Copy, Debug, PartialEq)]
 pub struct KgPerM3(pub f64);
 
 // A volume.
-#[derive(Clone, Copy)]
+#[derive(Clone, Copy, Debug, PartialEq)]
 pub struct M3PerKg(pub f64);
 
 // An enthalpy.
-#[derive(Clone, Copy)]
+#[derive(Clone, Copy, Debug, PartialEq)]
 pub struct KJPerKg(pub f64);
 
 // An entropy.
-#[derive(Clone, Copy)]
+#[derive(Clone, Copy, Debug, PartialEq)]
 pub struct KJPerKgK(pub f64);
 
-// Why a call is refused. `number_of` gives the paper's number of each case.
-#[derive(Clone, Copy)]
+// Why a call is refused. Each case has the number that a caller is told; `number_of` has them for the proofs.
+#[derive(Clone, Copy, Debug, PartialEq, Eq)]
 pub enum Refusal {
-    NotFinite,
-    First,
-    Second,
-    State,
-    Step,
-    Property,
-    Columns,
-    Border,
-    Unfound,
+    NotFinite = 1,
+    First = 2,
+    Second = 3,
+    State = 4,
+    Step = 5,
+    Property = 6,
+    Columns = 7,
+    Border = 8,
+    Unfound = 15,
 }
 
-// The answer of a call for one number.
-#[derive(Clone, Copy)]
-pub enum Answer {
-    Value(f64),
-    Refused(Refusal),
+impl From<Refusal> for u8 {
+    ghost from_gives = { λ k r. r ≡ number_of k };
+
+    fn from(k: Refusal) -> u8 {
+        k as u8
+    }
 }
 
-// The answer of a test, or of a call whose numbers stand beside it.
-#[derive(Clone, Copy)]
-pub enum Verdict {
-    Accepted,
-    Refused(Refusal),
+// An interval, both ends of which count as inside. Kept: std's RangeInclusive does not copy, and its ends are no fields of a constant.
+#[derive(Clone, Copy, Debug, PartialEq)]
+pub struct Interval {
+    pub from: f64,
+    pub to: f64,
 }
 
-// The box: both ends of each range count as inside.
-pub const P_FROM: f64 = 16.529;
+impl Interval {
+    pub fn contains(self, x: f64) -> bool
+        ensures { result ≡ within self.from self.to x }
+    {
+        self.from <= x && x <= self.to
+    }
+}
 
-pub const P_TO: f64 = 100.0;
+// The box.
+pub const P_RANGE: Interval = Interval {
+    from: 16.529,
+    to: 100.0,
+};
 
-pub const T_FROM: f64 = 623.15;
+pub const T_RANGE: Interval = Interval {
+    from: 623.15,
+    to: 863.15,
+};
 
-pub const T_TO: f64 = 863.15;
+pub const D_RANGE: Interval = Interval {
+    from: 100.0,
+    to: 800.0,
+};
 
-pub const D_FROM: f64 = 100.0;
+pub const H_RANGE: Interval = Interval {
+    from: 1500.0,
+    to: 2900.0,
+};
 
-pub const D_TO: f64 = 800.0;
+pub const S_RANGE: Interval = Interval { from: 3.3, to: 5.3 };
 
-pub const H_FROM: f64 = 1500.0;
+// Where p and T lie on the saturation line.
+pub const P_SATURATED: Interval = Interval {
+    from: 16.529,
+    to: 22.064,
+};
 
-pub const H_TO: f64 = 2900.0;
-
-pub const S_FROM: f64 = 3.3;
-
-pub const S_TO: f64 = 5.3;
-
-// Where p and T end on the saturation line.
-pub const P_MAX4: f64 = 22.064;
-
-pub const T_MAX4: f64 = 647.096;
+pub const T_SATURATED: Interval = Interval {
+    from: 623.15,
+    to: 647.096,
+};
 
 // common/constant.rs
 pub const P_TOL: f64 = 1.0e-15;
@@ -107,6 +124,7 @@ pub const SC_WATER: f64 = 4.41202148223476;
 pub const TT: f64 = 273.16;
 
 // common/property_id.rs: the 25 numbers of the properties at a (T,d).
+// Kept: whole numbers, which are the Rust's and the C interface's.
 pub const OP: i32 = 0;
 
 pub const OV: i32 = 3;
@@ -162,8 +180,26 @@ pub fn constants() -> [f64; 20]
     ensures { result ≡ printed }
 {
     [
-        P_FROM, P_TO, T_FROM, T_TO, D_FROM, D_TO, H_FROM, H_TO, S_FROM, S_TO, P_MAX4, T_MAX4,
-        P_TOL, T_TOL, RGAS_WATER, TC_WATER, PC_WATER, DC_WATER, SC_WATER, TT,
+        P_RANGE.from,
+        P_RANGE.to,
+        T_RANGE.from,
+        T_RANGE.to,
+        D_RANGE.from,
+        D_RANGE.to,
+        H_RANGE.from,
+        H_RANGE.to,
+        S_RANGE.from,
+        S_RANGE.to,
+        P_SATURATED.to,
+        T_SATURATED.to,
+        P_TOL,
+        T_TOL,
+        RGAS_WATER,
+        TC_WATER,
+        PC_WATER,
+        DC_WATER,
+        SC_WATER,
+        TT,
     ]
 }
 
@@ -177,11 +213,11 @@ pub fn property_numbers() -> [i32; 25]
     ]
 }
 
+// std's method under the word by which the definitions speak.
 pub fn is_finite(x: f64) -> bool
     ensures { result ≡ finite x }
 {
-    let top: f64 = 1.0 / 0.0;
-    if x < top { -top < x } else { false }
+    x.is_finite()
 }
 
 // x / y, or y where that is lost: x divided by an infinity is 0 and would hide it.
@@ -191,7 +227,7 @@ pub fn over(x: f64, y: f64) -> f64
     if is_finite(y) { x / y } else { y }
 }
 
-// x without its sign.
+// x without its sign. Kept: the definition (|x| of a search and of a check) leaves -0 as it is, and f64::abs answers 0 for it.
 pub fn size(x: f64) -> f64
     ensures { result ≡ size_of x }
 {
@@ -201,31 +237,24 @@ pub fn size(x: f64) -> f64
     x
 }
 
-// The smaller of two counts.
-pub fn least(a: usize, b: usize) -> usize
-    ensures { result ≡ min a b }
-{
-    if b < a { b } else { a }
-}
-
 // A step's number, or refusal 5.
-pub fn settle(x: f64) -> Answer
+pub fn settle(x: f64) -> Result<f64, Refusal>
     ensures { paper result ≡ check x }
 {
     if is_finite(x) {
-        Answer::Value(x)
+        Ok(x)
     } else {
-        Answer::Refused(Refusal::Step)
+        Err(Refusal::Step)
     }
 }
 
 // The number of an answer, or a NaN where it is refused: for a layer that tests once.
-pub fn or_nan(a: Answer) -> f64
+pub fn or_nan(a: Result<f64, Refusal>) -> f64
     ensures { result ≡ or_nan (paper a) }
 {
     match a {
-        Answer::Value(x) => x,
-        Answer::Refused(_) => 0.0 / 0.0,
+        Ok(x) => x,
+        Err(_) => f64::NAN,
     }
 }
 
@@ -236,122 +265,95 @@ pub fn finite_or_nan(x: f64) -> f64
     or_nan(settle(x))
 }
 
-pub fn number(k: Refusal) -> u8
-    ensures { result ≡ number_of k }
+// The number of an answer's refusal, 0 where it is accepted.
+pub fn refusal_byte<T: Drop>(a: Result<T, Refusal>) -> u8
+    ensures { result ≡ number_in (paper a) }
 {
-    match k {
-        Refusal::NotFinite => 1,
-        Refusal::First => 2,
-        Refusal::Second => 3,
-        Refusal::State => 4,
-        Refusal::Step => 5,
-        Refusal::Property => 6,
-        Refusal::Columns => 7,
-        Refusal::Border => 8,
-        Refusal::Unfound => 15,
+    match a {
+        Ok(_) => 0,
+        Err(k) => k.into(),
     }
-}
-
-// The number of a verdict, 0 where it is accepted.
-pub fn verdict_byte(v: Verdict) -> u8
-    ensures { result ≡ number_in (paper_verdict v) }
-{
-    match v {
-        Verdict::Accepted => 0,
-        Verdict::Refused(k) => number(k),
-    }
-}
-
-// Whether x is from `from` to `to`, both ends inside.
-pub fn ranged(x: f64, from: f64, to: f64) -> bool
-    ensures { result ≡ within from to x }
-{
-    if from <= x { x <= to } else { false }
 }
 
 // The checks of a call with one argument.
-pub fn check_only(x: f64, from: f64, to: f64) -> Verdict
-    ensures { paper_verdict result ≡ only_rule from to x }
+pub fn check_only(x: f64, range: Interval) -> Result<(), Refusal>
+    ensures { paper result ≡ only_rule range.from range.to x }
 {
-    if is_finite(x) {
-        if ranged(x, from, to) {
-            return Verdict::Accepted;
-        }
-        return Verdict::Refused(Refusal::First);
+    if !is_finite(x) {
+        return Err(Refusal::NotFinite);
     }
-    Verdict::Refused(Refusal::NotFinite)
+    if !range.contains(x) {
+        return Err(Refusal::First);
+    }
+    Ok(())
 }
 
 // The checks of a call with two arguments, x and y.
-pub fn check_pair(x: f64, x_from: f64, x_to: f64, y: f64, y_from: f64, y_to: f64) -> Verdict
-    ensures { paper_verdict result ≡ pair_rule x_from x_to x y_from y_to y }
+pub fn check_pair(x: f64, x_range: Interval, y: f64, y_range: Interval) -> Result<(), Refusal>
+    ensures { paper result ≡ pair_rule x_range.from x_range.to x y_range.from y_range.to y }
 {
-    if is_finite(x) {
-        if is_finite(y) {
-            if ranged(x, x_from, x_to) {
-                if ranged(y, y_from, y_to) {
-                    return Verdict::Accepted;
-                }
-                return Verdict::Refused(Refusal::Second);
-            }
-            return Verdict::Refused(Refusal::First);
-        }
+    if !is_finite(x) || !is_finite(y) {
+        return Err(Refusal::NotFinite);
     }
-    Verdict::Refused(Refusal::NotFinite)
+    if !x_range.contains(x) {
+        return Err(Refusal::First);
+    }
+    if !y_range.contains(y) {
+        return Err(Refusal::Second);
+    }
+    Ok(())
 }
 
-// A p, T or d of the state is in its range: number 4 otherwise.
+// Whether a p, T or d is in its range.
 pub fn in_p(p: MPa) -> bool
     ensures { result ≡ within p_range_from p_range_to p.0 }
 {
-    ranged(p.0, P_FROM, P_TO)
+    P_RANGE.contains(p.0)
 }
 
 pub fn in_t(t: Kelvin) -> bool
     ensures { result ≡ within t_range_from t_range_to t.0 }
 {
-    ranged(t.0, T_FROM, T_TO)
+    T_RANGE.contains(t.0)
 }
 
 pub fn in_d(d: KgPerM3) -> bool
     ensures { result ≡ within d_range_from d_range_to d.0 }
 {
-    ranged(d.0, D_FROM, D_TO)
+    D_RANGE.contains(d.0)
 }
 
-// The checks of the five pairs.
-pub fn check_Td(t: Kelvin, d: KgPerM3) -> Verdict
-    ensures { paper_verdict result ≡ Td_box t.0 d.0 }
+// The checks of the five pairs. Kept: five of one line, so that each argument stands under its unit.
+pub fn check_Td(t: Kelvin, d: KgPerM3) -> Result<(), Refusal>
+    ensures { paper result ≡ Td_box t.0 d.0 }
 {
-    check_pair(t.0, T_FROM, T_TO, d.0, D_FROM, D_TO)
+    check_pair(t.0, T_RANGE, d.0, D_RANGE)
 }
 
 // What lies in its range is finite, so a p and a T of the box need not be looked at for that: the column run tests every row here.
-pub fn check_pT(p: MPa, t: Kelvin) -> Verdict
-    ensures { paper_verdict result ≡ pT_box p.0 t.0 }
+pub fn check_pT(p: MPa, t: Kelvin) -> Result<(), Refusal>
+    ensures { paper result ≡ pT_box p.0 t.0 }
 {
-    if in_p(p) {
-        if in_t(t) {
-            return Verdict::Accepted;
-        }
+    if in_p(p) && in_t(t) {
+        return Ok(());
     }
-    check_pair(p.0, P_FROM, P_TO, t.0, T_FROM, T_TO)
+    check_pair(p.0, P_RANGE, t.0, T_RANGE)
 }
 
-pub fn check_ph(p: MPa, h: KJPerKg) -> Verdict
-    ensures { paper_verdict result ≡ ph_box p.0 h.0 }
+pub fn check_ph(p: MPa, h: KJPerKg) -> Result<(), Refusal>
+    ensures { paper result ≡ ph_box p.0 h.0 }
 {
-    check_pair(p.0, P_FROM, P_TO, h.0, H_FROM, H_TO)
+    check_pair(p.0, P_RANGE, h.0, H_RANGE)
 }
 
-pub fn check_ps(p: MPa, s: KJPerKgK) -> Verdict
-    ensures { paper_verdict result ≡ ps_box p.0 s.0 }
+pub fn check_ps(p: MPa, s: KJPerKgK) -> Result<(), Refusal>
+    ensures { paper result ≡ ps_box p.0 s.0 }
 {
-    check_pair(p.0, P_FROM, P_TO, s.0, S_FROM, S_TO)
+    check_pair(p.0, P_RANGE, s.0, S_RANGE)
 }
 
-pub fn check_hs(h: KJPerKg, s: KJPerKgK) -> Verdict
-    ensures { paper_verdict result ≡ hs_box h.0 s.0 }
+pub fn check_hs(h: KJPerKg, s: KJPerKgK) -> Result<(), Refusal>
+    ensures { paper result ≡ hs_box h.0 s.0 }
 {
-    check_pair(h.0, H_FROM, H_TO, s.0, S_FROM, S_TO)
+    check_pair(h.0, H_RANGE, s.0, S_RANGE)
 }

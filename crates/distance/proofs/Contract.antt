@@ -1,22 +1,19 @@
 -- The theorems on the contracts themselves: what `T_atRegionBoundary` answers reaches the exact temperature, and under the premises of
 -- demand 3 the one result that `sub_region3_pT` may give is the exact letter. Assumes nothing.
 use mathlib.Core.Path.{◌≡◌, sym, ap, ◌∙◌, subst}
-use Prim.Native.Nat.{ℕ}
-use native.Mathlib.Omega.{arith}
 use lib.Dec.{T}
 use lib.Ieee.{binary64, fits, le}
 use contract.Lifetimes.{Lfts}
 use denote.Triple.Clauses.{AtExit}
 use borrow.Fn.Kinds.{Dens, ended_of, res_t}
-use Rattle.common.specs.Outcome.{Outcome, value, refused}
-use Rattle.common.specs.Answer.{number_of, paper}
+use Rattle.std.specs.Prelude.{Result, Ok, Err}
+use Rattle.common.specs.Outcome.{value}
+use Rattle.common.specs.Answer.{paper}
+use Rattle.common.specs.declared.Refusal.{Refusal}
+use Rattle.common.proofs.Calls.{no_value}
 use Rattle.common.specs.Decimal.{whole}
 use Rattle.common.specs.Constant.{p_range_from}
 use Rattle.rounding.specs.Fraction.{scaled_by}
-use Rattle.subregion.specs.declared.Letter.{Letter}
-use Rattle.subregion.specs.declared.LetterAnswer.{LetterAnswer}
-use Rattle.subregion.specs.declared.LetterAnswer.TheVariants.{Value, Refused}
-use Rattle.subregion.specs.Letter.{paper_letter}
 use Rattle.boundaries.specs.Boundary.{boundary_rule}
 use Rattle.boundaries.specs.declared.Boundary.{Boundary}
 use Rattle.boundaries.proofs.T_atRegionBoundary.Kinds as line-kinds
@@ -36,15 +33,12 @@ pub line_reaches : (κs : Lfts 0) (a : Dens κs line-kinds.ps) (e : AtExit (ende
 line_reaches κs a e r post b k held from to =
     subst (Reaches b (scaled_by 48 a.0.0)) (sym (post ∙ ap (λ (x : Boundary). boundary_rule x a.0.0) k)) (boundary_distance b a.0.0 held from to)
 
-pub taken : (r : LetterAnswer) (l : Letter) → paper_letter r ≡ value l → r ≡ Value l
-taken (Value m) l e = cc
-taken (Refused k) l e = absurd (never (number_of k) l e)
-  where
-    never : (k : ℕ) (l : Letter) → ◌≡◌ {A = Outcome Letter} (refused k) (value l) → ⊥
-    never k l e = let z : ◌≡◌ {A = ℕ} 0 1 = cc in omega arith
+pub taken : {A : Type 0} (r : Result A Refusal) (x : A) → paper r ≡ value x → r ≡ Ok x
+taken (Ok y) x e = cc
+taken (Err k) x e = absurd (no_value e)
 
 pub sub_region_exact : (κs : Lfts 0) (a : Dens κs choice-kinds.ps) (e : AtExit (ended_of 0 choice-kinds.ps choice-kinds.r) κs)
     (r : (res_t choice-kinds.r κs).Denot) → choice.Post κs a r e
     → Inside a.0.0 a.1.0.0 → Clear (scaled_by 48 a.0.0) (scaled_by 43 a.1.0.0)
-    → r ≡ Value (exact_letter (scaled_by 48 a.0.0) (scaled_by 43 a.1.0.0))
+    → r ≡ Ok (exact_letter (scaled_by 48 a.0.0) (scaled_by 43 a.1.0.0))
 sub_region_exact κs a e r post i k = taken r (exact_letter (scaled_by 48 a.0.0) (scaled_by 43 a.1.0.0)) (post ∙ exact_letter_lem a.0.0 a.1.0.0 i k)

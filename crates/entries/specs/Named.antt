@@ -4,7 +4,7 @@ use Rattle.common.specs.Outcome.{Outcome, value, refused, number_in, value_in, z
 use Rattle.properties.specs.Together.{CpAndW}
 use Rattle.record.specs.Record.{fields_of}
 use Rattle.column_row.specs.declared.Line.{Line}
-use Rattle.secant.specs.Secant.{Proposal}
+use Rattle.secant.specs.declared.Proposal.{Proposal}
 use Rattle.search.specs.Calls.{SearchedReport as Told}
 use Rattle.reply.specs.declared.Reply.{Reply}
 use Rattle.reply.specs.Shape.{refused_by}
@@ -20,7 +20,7 @@ cp_w_reply a =
 
 -- a T or d that a search found, in the first place, and the trials beside
 abbrev pub found_reply : Outcome Proposal → Reply
-found_reply (value q) = record { refusal = 0; letter = 0; beside = q.trials; numbers = q.x ∷ replicate 9 zero_f }
+found_reply (value q) = record { refusal = 0; letter = 0; beside = q.trials; numbers = q.place ∷ replicate 9 zero_f }
 found_reply (refused k) = refused_by k
 
 -- a record whose state a search found, and the trials beside

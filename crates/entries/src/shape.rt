@@ -1,16 +1,16 @@
 // What the entries add to the shapes of a reply: a row of the column run, cp and w together, what a search found with its trials.
 ghost use Rattle.std.specs.Prelude.{◌≡◌};
+ghost use Rattle.common.specs.Answer.{paper};
 ghost use Rattle.by_number.specs.Together.{paper_cp_w};
-ghost use Rattle.place.specs.AcceptedPlace.{paper_found};
 ghost use Rattle.search.specs.Calls.{paper_searched};
 ghost use Rattle.entries.specs.Named.{row_reply, cp_w_reply, found_reply, searched_reply};
 
 use by_number::CpW;
 use column_row::Line;
-use common::{number, verdict_byte};
-use record::fields;
-use reply::{Reply, number_reply, refused};
-use search::{FoundAnswer, SearchedRecord};
+use common::{Refusal, refusal_byte};
+use reply::{Reply, first, number_reply, refused};
+use search::SearchedRecord;
+use secant::Proposal;
 
 pub fn row_reply(l: Line) -> Reply
     ensures { result ≡ row_reply l }
@@ -18,8 +18,7 @@ pub fn row_reply(l: Line) -> Reply
     Reply {
         refusal: l.refusal,
         letter: l.letter,
-        beside: 0,
-        numbers: [l.density.0, 0.0, 0.0, 0.0, 0.0, 0.0, 0.0, 0.0, 0.0, 0.0],
+        ..first(l.density.0)
     }
 }
 
@@ -27,32 +26,27 @@ pub fn row_reply(l: Line) -> Reply
 pub fn cp_w_reply(a: CpW) -> Reply
     ensures { result ≡ cp_w_reply (paper_cp_w a) }
 {
-    let cp = a.cp;
-    let w = a.w;
-    let first = number_reply(cp);
-    let second = number_reply(w);
-    let xs = first.numbers;
-    let ys = second.numbers;
+    let cp = number_reply(a.cp);
+    let w = number_reply(a.w);
+    let mut numbers = cp.numbers;
+    numbers[1] = w.numbers[0];
     Reply {
-        refusal: first.refusal,
-        letter: 0,
-        beside: second.refusal as u32,
-        numbers: [xs[0], ys[0], 0.0, 0.0, 0.0, 0.0, 0.0, 0.0, 0.0, 0.0],
+        numbers,
+        beside: w.refusal.into(),
+        ..cp
     }
 }
 
 // A T or d that a search found, and its trials beside.
-pub fn found_reply(a: FoundAnswer) -> Reply
-    ensures { result ≡ found_reply (paper_found a) }
+pub fn found_reply(a: Result<Proposal, Refusal>) -> Reply
+    ensures { result ≡ found_reply (paper a) }
 {
     match a {
-        FoundAnswer::Value(x, trials) => Reply {
-            refusal: 0,
-            letter: 0,
-            beside: trials,
-            numbers: [x, 0.0, 0.0, 0.0, 0.0, 0.0, 0.0, 0.0, 0.0, 0.0],
+        Ok(q) => Reply {
+            beside: q.trials,
+            ..first(q.place)
         },
-        FoundAnswer::Refused(k) => refused(number(k)),
+        Err(k) => refused(k.into()),
     }
 }
 
@@ -60,12 +54,9 @@ pub fn found_reply(a: FoundAnswer) -> Reply
 pub fn searched_reply(a: SearchedRecord) -> Reply
     ensures { result ≡ searched_reply (paper_searched a) }
 {
-    let v = a.verdict;
-    let x = a.record;
     Reply {
-        refusal: verdict_byte(v),
-        letter: 0,
         beside: a.trials,
-        numbers: fields(x),
+        numbers: a.record.into(),
+        ..refused(refusal_byte(a.verdict))
     }
 }

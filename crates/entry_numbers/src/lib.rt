@@ -1,24 +1,13 @@
-// Which number names which entry point: the kinds of entries, and the reading of a number (`numbers`).
+// Which number names which entry point.
 #![tactic(auto)]
 
-mod numbers;
+ghost use Rattle.std.specs.Prelude.{◌≡◌};
+ghost use Rattle.entry_numbers.specs.Numbers.{entry_of};
 
-pub use numbers::entry_of;
-
-// The entry points by the tens of their numbers, each ten a kind. Unnamed stands for a number that names none.
-#[derive(Clone, Copy)]
+// The entry points: the written rules, the saturation line, a boundary, the letter and a letter's volume; volumes, the
+// backward equations, the border with region 2; records and a property; a row of the column run, cp and w together, what a search finds.
+#[derive(Clone, Copy, Debug, PartialEq, Eq)]
 pub enum Entry {
-    Unnamed,
-    Ones(Ones),
-    Tens(Tens),
-    Twenties(Twenties),
-    Thirties(Thirties),
-}
-
-// The written rules, the saturation line, a boundary, the letter, a letter's volume.
-#[derive(Clone, Copy)]
-pub enum Ones {
-    Unnamed,
     Power,
     Root,
     Logarithm,
@@ -28,12 +17,6 @@ pub enum Ones {
     Boundary,
     Letter,
     LetterVolume,
-}
-
-// Volumes, the backward equations, the border with region 2.
-#[derive(Clone, Copy)]
-pub enum Tens {
-    Unnamed,
     Volume,
     PhaseVolume,
     PhT,
@@ -43,12 +26,6 @@ pub enum Tens {
     HsP,
     BorderT,
     BorderP,
-}
-
-// Records, and a property.
-#[derive(Clone, Copy)]
-pub enum Twenties {
-    Unnamed,
     TdRecord,
     PtRecord,
     PhRecord,
@@ -58,15 +35,63 @@ pub enum Twenties {
     PvRecord,
     ThRecord,
     TsRecord,
-}
-
-// A row of the column run, cp and w together, what a search finds.
-#[derive(Clone, Copy)]
-pub enum Thirties {
-    Unnamed,
     ColumnRow,
     CpW,
     PvT,
     ThD,
     TsD,
+}
+
+// Each entry stands at its number, and None at a number that names none.
+const ENTRIES: [Option<Entry>; 38] = [
+    // 0 to 9
+    None,
+    Some(Entry::Power),
+    Some(Entry::Root),
+    Some(Entry::Logarithm),
+    Some(Entry::Exponential),
+    Some(Entry::PSaturation),
+    Some(Entry::TSaturation),
+    Some(Entry::Boundary),
+    Some(Entry::Letter),
+    Some(Entry::LetterVolume),
+    // 10 to 19
+    Some(Entry::Volume),
+    Some(Entry::PhaseVolume),
+    Some(Entry::PhT),
+    Some(Entry::PhV),
+    Some(Entry::PsT),
+    Some(Entry::PsV),
+    Some(Entry::HsP),
+    None,
+    Some(Entry::BorderT),
+    Some(Entry::BorderP),
+    // 20 to 29
+    Some(Entry::TdRecord),
+    Some(Entry::PtRecord),
+    Some(Entry::PhRecord),
+    Some(Entry::PsRecord),
+    Some(Entry::HsRecord),
+    Some(Entry::Property),
+    Some(Entry::PvRecord),
+    Some(Entry::ThRecord),
+    Some(Entry::TsRecord),
+    None,
+    // 30 to 37
+    Some(Entry::ColumnRow),
+    None,
+    None,
+    None,
+    Some(Entry::CpW),
+    Some(Entry::PvT),
+    Some(Entry::ThD),
+    Some(Entry::TsD),
+];
+
+// The entry that a number names, if any.
+// Kept: an Option and no TryFrom, since None says all there is to say of a number that names none: an error type would say no more.
+pub fn entry_of(number: u8) -> Option<Entry>
+    ensures { result ≡ entry_of number }
+{
+    ENTRIES.get(usize::from(number)).copied().flatten()
 }

@@ -15,7 +15,7 @@ use Rattle.common.specs.Decimal.{decimal, scaled}
 use Rattle.border.specs.Border.{region3_box}
 use Rattle.rounding.specs.Fraction.{scaled_by}
 use Rattle.subregion.specs.declared.Letter.{Letter}
-use Rattle.subregion.specs.declared.LetterAnswer.TheVariants.{Value}
+use Rattle.std.specs.Prelude.{Ok}
 use Rattle.choosers.specs.Choosers.{Band, ab, cdef, cghijk, clhijk, clmnopjk, cq_rk, csrk, cst, ct, band_of}
 use Rattle.r4.specs.Saturation.{T_saturation}
 use Rattle.boundary.specs.Choice.{ab_rule, cdef_rule, chijk_rule, clmnopjk_rule, near_rule, cq_rk_rule, csrk_rule, cst_rule, ct_rule, in_band, letter_at, letter_rule}
@@ -133,5 +133,5 @@ answered p t i e =
 -- on the contract
 pub sub_region_answers : (κs : Lfts 0) (a : Dens κs choice-kinds.ps) (e : AtExit (ended_of 0 choice-kinds.ps choice-kinds.r) κs)
     (r : (res_t choice-kinds.r κs).Denot)
-    → choice.Post κs a r e → InBox a.0.0 a.1.0.0 → region3_box a.0.0 a.1.0.0 ≡ value tt → (l : Letter) × (r ≡ Value l)
+    → choice.Post κs a r e → InBox a.0.0 a.1.0.0 → region3_box a.0.0 a.1.0.0 ≡ value tt → (l : Letter) × (r ≡ Ok l)
 sub_region_answers κs a e r post i s = let h = answered a.0.0 a.1.0.0 i s in (h.letter, taken r h.letter (post ∙ h.is))

@@ -8,20 +8,17 @@ use lib.Ieee.{Float, nan, inf, fin, le, lt}
 use contract.Lifetimes.{Lfts}
 use denote.Triple.Clauses.{AtExit}
 use borrow.Fn.Kinds.{Dens, ended_of, res_t}
+use Rattle.std.specs.Prelude.{Result, Ok, Err}
 use Rattle.common.specs.Outcome.{Outcome, value, refused, check, then, or_nan}
 use Rattle.common.specs.Decimal.{decimal}
-use Rattle.common.specs.Answer.{number_of, paper_verdict}
+use Rattle.common.specs.Answer.{number_of, paper}
 use Rattle.common.proofs.Calls.{no_value}
+use Rattle.common.proofs.Same.{kind_of, kind_number}
 use Rattle.common.specs.declared.Refusal.{Refusal}
-use Rattle.common.specs.declared.Refusal.TheVariants.{NotFinite, First, Second, State, Step, Property, Columns, Border, Unfound}
-use Rattle.common.specs.declared.Verdict.{Verdict}
-use Rattle.common.specs.declared.Verdict.TheVariants as verdicts
+use Rattle.common.specs.declared.Refusal.TheVariants.{Border}
 use Rattle.rounding.specs.Fraction.{scaled_by}
 use Rattle.subregion.specs.declared.Letter.{Letter}
 use Rattle.subregion.specs.declared.Letter.TheVariants.{C, K, Q, R}
-use Rattle.subregion.specs.declared.LetterAnswer.{LetterAnswer}
-use Rattle.subregion.specs.declared.LetterAnswer.TheVariants.{Value, Refused}
-use Rattle.subregion.specs.Letter.{paper_letter}
 use Rattle.r4.specs.Saturation.{T_saturation}
 use Rattle.r4.proofs.Raw.{T_checked}
 use Rattle.border.specs.Border.{region3_box}
@@ -38,6 +35,7 @@ use Rattle.boundary.specs.Choice.{letter_rule}
 use Rattle.boundary.proofs.Limit.{limit_is}
 use Rattle.boundary.proofs.sub_region3_pT.Kinds as choice-kinds
 use Rattle.boundary.proofs.sub_region3_pT.Reads as choice
+use Rattle.distance.proofs.Contract.{taken}
 use Rattle.exact.specs.Premises.{InBox, BorderClear}
 use Rattle.exact.proofs.Border.{below_border, above_border}
 
@@ -110,42 +108,26 @@ module _ (p t : Float) where
 
 -- ---- the answers that say so
 eight_is : (k : Refusal) → number_of k ≡ 8 → k ≡ Border
-eight_is NotFinite e = absurd (omega arith)
-eight_is First e = absurd (omega arith)
-eight_is Second e = absurd (omega arith)
-eight_is State e = absurd (omega arith)
-eight_is Step e = absurd (omega arith)
-eight_is Property e = absurd (omega arith)
-eight_is Columns e = absurd (omega arith)
-eight_is Border e = refl
-eight_is Unfound e = absurd (omega arith)
+eight_is k e = sym (kind_number k) ∙ ap kind_of e ∙ kind_number Border
 
-verdict_accepted : (r : Verdict) → paper_verdict r ≡ value tt → r ≡ verdicts.Accepted
-verdict_accepted verdicts.Accepted e = refl
-verdict_accepted (verdicts.Refused k) e = absurd (no_value e)
-
-verdict_refused : (r : Verdict) → paper_verdict r ≡ refused 8 → r ≡ verdicts.Refused Border
-verdict_refused verdicts.Accepted e = absurd (no_value (sym e))
-verdict_refused (verdicts.Refused k) e = ap verdicts.Refused (eight_is k (refused_same e))
-
-letter_refused : (r : LetterAnswer) → paper_letter r ≡ refused 8 → r ≡ Refused Border
-letter_refused (Value l) e = absurd (no_value (sym e))
-letter_refused (Refused k) e = ap Refused (eight_is k (refused_same e))
+refused_with_8 : {A : Type 0} (r : Result A Refusal) → paper r ≡ refused 8 → r ≡ Err Border
+refused_with_8 (Ok x) e = absurd (no_value (sym e))
+refused_with_8 (Err k) e = ap Err (eight_is k (refused_same e))
 
 -- ---- `check_region3`
 module _ (κs : Lfts 0) (a : Dens κs check-kinds.ps) (e : AtExit (ended_of 0 check-kinds.ps check-kinds.r) κs) (r : (res_t check-kinds.r κs).Denot)
     (post : checked.Post κs a r e) (i : InBox a.0.0 a.1.0.0) where
-  pub check_below : BorderClear true (scaled_by 48 a.0.0) (scaled_by 43 a.1.0.0) → r ≡ verdicts.Accepted
-  check_below s = verdict_accepted r (post ∙ below_border a.0.0 a.1.0.0 i s)
+  pub check_below : BorderClear true (scaled_by 48 a.0.0) (scaled_by 43 a.1.0.0) → r ≡ Ok tt
+  check_below s = taken r tt (post ∙ below_border a.0.0 a.1.0.0 i s)
 
-  pub check_above : BorderClear false (scaled_by 48 a.0.0) (scaled_by 43 a.1.0.0) → r ≡ verdicts.Refused Border
-  check_above s = verdict_refused r (post ∙ above_border a.0.0 a.1.0.0 i s)
+  pub check_above : BorderClear false (scaled_by 48 a.0.0) (scaled_by 43 a.1.0.0) → r ≡ Err Border
+  check_above s = refused_with_8 r (post ∙ above_border a.0.0 a.1.0.0 i s)
 
 -- ---- `sub_region3_pT`
 module _ (κs : Lfts 0) (a : Dens κs choice-kinds.ps) (e : AtExit (ended_of 0 choice-kinds.ps choice-kinds.r) κs) (r : (res_t choice-kinds.r κs).Denot)
     (post : choice.Post κs a r e) (i : InBox a.0.0 a.1.0.0) where
-  pub choice_below : BorderClear true (scaled_by 48 a.0.0) (scaled_by 43 a.1.0.0) → r ≡ Refused Border → ⊥
-  choice_below s h = passed_not a.0.0 a.1.0.0 (below_border a.0.0 a.1.0.0 i s) (sym post ∙ ap paper_letter h)
+  pub choice_below : BorderClear true (scaled_by 48 a.0.0) (scaled_by 43 a.1.0.0) → r ≡ Err Border → ⊥
+  choice_below s h = passed_not a.0.0 a.1.0.0 (below_border a.0.0 a.1.0.0 i s) (sym post ∙ ap paper h)
 
-  pub choice_above : BorderClear false (scaled_by 48 a.0.0) (scaled_by 43 a.1.0.0) → r ≡ Refused Border
-  choice_above s = letter_refused r (post ∙ stopped a.0.0 a.1.0.0 (above_border a.0.0 a.1.0.0 i s))
+  pub choice_above : BorderClear false (scaled_by 48 a.0.0) (scaled_by 43 a.1.0.0) → r ≡ Err Border
+  choice_above s = refused_with_8 r (post ∙ stopped a.0.0 a.1.0.0 (above_border a.0.0 a.1.0.0 i s))

@@ -2,16 +2,15 @@
 ghost use Rattle.exchange.specs.Reply.{Replied};
 
 use exchange_entry::ask;
-use exchange_record::{ReadAnswer, read};
+use exchange_record::read;
 use exchange_reply::{asked_bytes, refused_bytes};
-use exchange_writer::point_of;
-use record::blank;
+use record::Record;
 
 pub fn reply(s: &[u8]) -> [u8; 112]
     ensures { Replied s.now result }
 {
     match read(s) {
-        ReadAnswer::Value(q) => asked_bytes(q, ask(blank(), point_of(q))),
-        ReadAnswer::Refused(k) => refused_bytes(k),
+        Ok(q) => asked_bytes(q, ask(Record::default(), q.into())),
+        Err(k) => refused_bytes(k),
     }
 }

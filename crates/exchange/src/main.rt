@@ -4,29 +4,15 @@
 
 mod bytes;
 
-ghost use Rattle.std.specs.Prelude.{◌<◌, ◌≤◌, length};
-
-use buffer::wide;
-
-// The loop ends by this number of records, which no run reaches.
-const MOST: u64 = 0xffff_ffff_ffff_ffff;
-
-fn size_of(head: &[u8; 2]) -> usize
-    ensures { result < 65536 }
-{
-    (wide(head[0]) + 256 * wide(head[1])) as usize
-}
-
 // A record whose length was read, into a room of that length. Answers whether to go on.
 fn answer(rt: HostRuntime, record: &mut [u8], done: u64) -> bool {
     let reading = stdio::read_until_full(rt, b"exchange: standard input", &mut rt.stdin(), record);
-    let have = reading.have;
-    if have < record.len() {
+    if reading.have < record.len() {
         pages::say_end(
             rt,
             b"exchange: records ",
             done,
-            2u64.wrapping_add(have as u64),
+            2u64.wrapping_add(reading.have as u64),
         );
         return false;
     }
@@ -39,25 +25,28 @@ fn answer(rt: HostRuntime, record: &mut [u8], done: u64) -> bool {
 }
 
 // One turn: a length and its record. Answers whether to go on.
-fn turn(rt: HostRuntime, room: &mut [u8], done: u64) -> bool
-    requires { 65536 ≤ length room.old }
-{
-    let mut head = [0u8; 2];
+fn turn(rt: HostRuntime, room: &mut [u8; 65536], done: u64) -> bool {
+    let mut head = [0; 2];
     let reading = stdio::read_until_full(
         rt,
         b"exchange: standard input",
         &mut rt.stdin(),
         &mut head,
     );
-    let have = reading.have;
-    let stop = reading.stop;
-    if !pages::go_on(rt, b"exchange: records ", stop, done, have as u64) {
+    if !pages::go_on(
+        rt,
+        b"exchange: records ",
+        reading.stop,
+        done,
+        reading.have as u64,
+    ) {
         return false;
     }
-    let size = size_of(&head);
+    let size = usize::from(u16::from_le_bytes(head));
     answer(rt, &mut room[..size], done)
 }
 
+// The loop ends by a number of records that no run reaches.
 fn main(rt: HostRuntime) {
     if stdio::from_terminal(
         rt,
@@ -65,12 +54,10 @@ fn main(rt: HostRuntime) {
     ) {
         return;
     }
-    let mut room = [0u8; 65536];
-    let mut done: u64 = 0;
-    while done < MOST {
+    let mut room = [0; 65536];
+    for done in 0..u64::MAX {
         if !turn(rt, &mut room, done) {
             return;
         }
-        done += 1;
     }
 }

@@ -4,10 +4,10 @@
 use mathlib.Core.Path.{◌≡◌, refl, sym, ap, ◌∙◌}
 use mathlib.Core.Bool.{Bool, true, false, cond, not, ◌&&◌}
 use mathlib.Core.List.{List, [], ◌∷◌, ◌++◌}
-use Prim.Native.Nat.{ℕ, suc, ◌+◌, ◌*◌, ◌/◌, ◌%◌, ◌^◌, ◌≤◌, ◌<◌}
-use native.Mathlib.Nat.{zero-add, mul_assoc, pow-succ', mod-lt, div-eq_of_lt, div-add-mod', div-div-eq-div-mul}
+use Prim.Native.Nat.{ℕ, ◌+◌, ◌≤◌}
+use native.Mathlib.Nat.{zero-add}
 use native.Mathlib.Omega.{arith}
-use lib.Dec.{T, lit<, eqb, ltb}
+use lib.Dec.{T, eqb, ltb}
 use lib.IntN.{ℤ}
 use lib.ListN.{length, take, drop}
 use lib.Seq.{sets, sets-eq, take_at}
@@ -25,7 +25,7 @@ use Rattle.region3.specs.Entries.{pT_rule, ph_rule, ps_rule, hs_rule}
 use Rattle.exchange_record.specs.declared.Pair.{Pair}
 use Rattle.exchange_record.specs.declared.Pair.TheVariants as pair
 use Rattle.exchange_record.specs.declared.Asked.{Asked}
-use Rattle.exchange_record.specs.Grammar.{Field, Whole, AllWhole, spelt, encoded, word, word_from, known, Tagged, tagged, pairs, pair_in, pair_of, Accepted}
+use Rattle.exchange_record.specs.Grammar.{Field, Whole, AllWhole, spelt, encoded, word, known, Tagged, tagged, pairs, pair_in, pair_of, Accepted}
 use Rattle.exchange_record.specs.Reading.{Means}
 use Rattle.exchange_record.proofs.Exchange.{one_outcome}
 use Rattle.exchange_writer.specs.declared.Point.{Point}
@@ -33,87 +33,10 @@ use Rattle.exchange_writer.specs.declared.Point.TheVariants as at
 use Rattle.exchange_writer.specs.Point.{point_at, point_of}
 use Rattle.exchange_writer.specs.Written.{high, number_field, two_fields, record_of, room_rule, after, asked_for}
 use Rattle.exchange_writer.proofs.Laws.{record_length}
+use Rattle.exchange_entry.proofs.Bytes.{AllBytes, all_left, all_right, word_high, eight_bytes}
 use Rattle.exchange_entry.specs.Call.{entry_rule}
 use Rattle.exchange_entry.specs.Write.{write_rule}
 use Rattle.common.proofs.Calls.{no_value}
-
--- ---- a number and its bytes, the high byte first
-
-pub word_high : (n : ℕ) → n < 2 ^ 64 → word (high n) ≡ n
-word_high n h =
-    let s : (m : ℕ) → n / m ≡ 256 * (n / (m * 256)) + n / m % 256 = λ m. split m in
-    let e0 : n ≡ 256 * (n / 2 ^ 8) + n % 256 = first in
-    let e1 : n / 2 ^ 8 ≡ 256 * (n / 2 ^ 16) + n / 2 ^ 8 % 256 = s (2 ^ 8) in
-    let e2 : n / 2 ^ 16 ≡ 256 * (n / 2 ^ 24) + n / 2 ^ 16 % 256 = s (2 ^ 16) in
-    let e3 : n / 2 ^ 24 ≡ 256 * (n / 2 ^ 32) + n / 2 ^ 24 % 256 = s (2 ^ 24) in
-    let e4 : n / 2 ^ 32 ≡ 256 * (n / 2 ^ 40) + n / 2 ^ 32 % 256 = s (2 ^ 32) in
-    let e5 : n / 2 ^ 40 ≡ 256 * (n / 2 ^ 48) + n / 2 ^ 40 % 256 = s (2 ^ 40) in
-    let e6 : n / 2 ^ 48 ≡ 256 * (n / 2 ^ 56) + n / 2 ^ 48 % 256 = s (2 ^ 48) in
-    let e7 : n / 2 ^ 56 ≡ 256 * (n / 2 ^ 64) + n / 2 ^ 56 % 256 = s (2 ^ 56) in
-    let e8 : n / 2 ^ 64 ≡ 0 = div-eq_of_lt h in
-    let w7 : 256 * 0 + n / 2 ^ 56 % 256 ≡ n / 2 ^ 56 = omega arith in
-    rw (w7, ← e6, ← e5, ← e4, ← e3, ← e2, ← e1, ← e0)
-  where
-    split : (m : ℕ) → n / m ≡ 256 * (n / (m * 256)) + n / m % 256
-    split m =
-        let d = div-add-mod' (n / m) 256 in
-        let q = div-div-eq-div-mul n m 256 in
-        omega arith
-
-    first : n ≡ 256 * (n / 2 ^ 8) + n % 256
-    first = let d = div-add-mod' n 256 in omega arith
-
-abbrev pub AllBytes : List ℕ → Type 0
-AllBytes [] = Unit
-AllBytes (b ∷ bs) = (b < 256) × AllBytes bs
-
-all_left : (xs ys : List ℕ) → AllBytes (xs ++ ys) → AllBytes xs
-all_left [] ys h = tt
-all_left (x ∷ xs) ys h = (h.0, all_left xs ys h.1)
-
-all_right : (xs ys : List ℕ) → AllBytes (xs ++ ys) → AllBytes ys
-all_right [] ys h = h
-all_right (x ∷ xs) ys h = all_right xs ys h.1
-
--- as many bytes that say the same number are the same bytes
-same_word : (xs ys : List ℕ) (a b : ℕ) → length xs ≡ length ys → AllBytes xs → AllBytes ys → word_from a xs ≡ word_from b ys → (a ≡ b) × (xs ≡ ys)
-same_word [] [] a b l h k e = (e, refl)
-same_word [] (y ∷ ys) a b l h k e = absurd (none l)
-  where
-    none : {n : ℕ} → 0 ≡ suc n → ⊥
-    none z = omega arith
-same_word (x ∷ xs) [] a b l h k e = absurd (none l)
-  where
-    none : {n : ℕ} → suc n ≡ 0 → ⊥
-    none z = omega arith
-same_word (x ∷ xs) (y ∷ ys) a b l h k e =
-    let r = same_word xs ys (256 * a + x) (256 * b + y) (omega arith) h.1 k.1 e in
-    let hx = h.0 in
-    let hy = k.0 in
-    let front = r.0 in
-    let ex : x ≡ y = omega arith in
-    let es : xs ≡ ys = r.1 in
-    (omega arith, (cc))
-
-byte : (n : ℕ) → n % 256 < 256
-byte n = mod-lt n (lit< tt)
-
-high_bytes : (n : ℕ) → AllBytes (high n)
-high_bytes n = (byte _, (byte _, (byte _, (byte _, (byte _, (byte _, (byte _, (byte _, tt))))))))
-
--- n bytes after a number below m are a number below m * 256 ^ n
-word_below : (xs : List ℕ) (a m : ℕ) → a < m → AllBytes xs → word_from a xs < m * 256 ^ length xs
-word_below [] a m l h = omega arith
-word_below (x ∷ xs) a m l h =
-    let hx = h.0 in
-    let r = word_below xs (256 * a + x) (m * 256) (omega arith) h.1 in
-    rw (pow-succ', ← mul_assoc) r
-
--- eight bytes are those of their number, which has 64 bits
-eight_bytes : (xs : List ℕ) → length xs ≡ 8 → AllBytes xs → (high (word xs) ≡ xs) × (word xs < 2 ^ 64)
-eight_bytes xs l h =
-    let small : word xs < 2 ^ 64 = rw l at (word_below xs 0 1 (lit< tt) h) in
-    ((same_word (high (word xs)) xs 0 0 (sym l) (high_bytes (word xs)) h (word_high (word xs) small)).1, small)
 
 -- ---- written, then read
 
@@ -161,7 +84,8 @@ written_read (at.HS e s) h = two_read 4 5 e.0 s.0 pair.HS h.0 h.1 refl refl
 pub front_written : (x : Point) (found out : List ℕ) → write_rule x found ≡ (value tt, out) → take 22 out ≡ record_of x
 front_written x found out e = go (report (entry_rule x)).0 e
   where
-    by : (b : Bool) → ltb (length found) 22 ≡ b → ◌≡◌ {A = Outcome Unit × List ℕ} (cond b (refused 16, found) (value tt, sets found 0 (record_of x))) (value tt, out)
+    by : (b : Bool) → ltb (length found) 22 ≡ b
+        → ◌≡◌ {A = Outcome Unit × List ℕ} (cond b (refused 16, found) (value tt, sets found 0 (record_of x))) (value tt, out)
         → take 22 out ≡ record_of x
     by true t h = absurd (no_value (ap (λ (z : Outcome Unit × List ℕ). z.0) h))
     by false t h =
@@ -175,7 +99,8 @@ front_written x found out e = go (report (entry_rule x)).0 e
     go (value u) h = by (ltb (length found) 22) refl h
 
 -- so whatever the reader may answer to it is that pair with those bits
-pub read_back : (x : Point) → AreF64 x → (found out : List ℕ) → write_rule x found ≡ (value tt, out) → (o : Outcome Asked) → Means (take 22 out) o → o ≡ value (asked_for x)
+pub read_back : (x : Point) → AreF64 x → (found out : List ℕ) → write_rule x found ≡ (value tt, out) → (o : Outcome Asked) → Means (take 22 out) o
+    → o ≡ value (asked_for x)
 read_back x h found out e o m =
     one_outcome (take 22 out) o (value (asked_for x)) m (rw (front_written x found out e) (written_read x h))
 
@@ -227,7 +152,8 @@ unfolding Matched
 all_matched = (λ a b. refl, (λ a b. refl, (λ a b. refl, (λ a b. refl, (λ a b. refl, tt)))))
 
 -- eight bytes that no entry calls a NaN are the bytes of their number
-body_back : (xs : List ℕ) → length xs ≡ 8 → AllBytes xs → T (not (is_nan (of_bits binary64 (word xs)))) → high (to_bits binary64 (of_bits binary64 (word xs))) ≡ xs
+body_back : (xs : List ℕ) → length xs ≡ 8 → AllBytes xs → T (not (is_nan (of_bits binary64 (word xs))))
+    → high (to_bits binary64 (of_bits binary64 (word xs))) ≡ xs
 body_back xs l h n =
     let w = eight_bytes xs l h in
     ap high (to_bits-of_bits binary64 (word xs) w.1 n) ∙ w.0
@@ -240,7 +166,8 @@ field_back f w l h n =
     rw (body_back f.body l h n, ← eh, ← el)
 
 -- a record without skipped tags that reads as a pair which its entry accepts is that pair's record
-pub record_back : (s : List ℕ) (q : Asked) (r : Record) → AllBytes s → (a : Accepted s q) → known a.fields ≡ a.fields → entry_rule (point_of q) ≡ value r → record_of (point_of q) ≡ s
+pub record_back : (s : List ℕ) (q : Asked) (r : Record) → AllBytes s → (a : Accepted s q) → known a.fields ≡ a.fields
+    → entry_rule (point_of q) ≡ value r → record_of (point_of q) ≡ s
 record_back s q r h a k e =
     let m = a.forms in
     let f = m.first in
@@ -267,10 +194,15 @@ pub read_written : (s : List ℕ) (q : Asked) (r : Record) → AllBytes s → (a
     → (found : List ℕ) → 22 ≤ length found → (length s ≡ 22) × (write_rule (point_of q) found ≡ (value tt, s ++ drop 22 found))
 read_written s q r h a k e found l =
     let b = record_back s q r h a k e in
-    let n : length (record_of (point_of q)) ≡ 22 = record_length (point_of q) in
-    (sym (ap length b) ∙ n, ap (λ (o : Outcome Record). after (report o).0 (point_of q) found) e ∙ in_room (point_of q) n ∙ ap (λ (x : List ℕ). (value tt, x ++ drop 22 found)) b)
+    let n : length (record_of (point_of q)) ≡ 22 = record_length (point_of q) in (
+      sym (ap length b) ∙ n,
+      ap (λ (o : Outcome Record). after (report o).0 (point_of q) found) e
+          ∙ in_room (point_of q) n
+          ∙ ap (λ (x : List ℕ). (value tt, x ++ drop 22 found)) b,
+    )
   where
     in_room : (x : Point) → length (record_of x) ≡ 22 → room_rule x found ≡ (value tt, record_of x ++ drop 22 found)
     in_room x n =
         rw (le-ltb (length found) 22 l)
-        (ap (λ (o : List ℕ). (value tt, o)) (sets-eq (record_of x) found 0 (omega arith) ∙ ap (λ (i : ℕ). record_of x ++ drop i found) (zero-add (length (record_of x)) ∙ n)))
+        (ap (λ (o : List ℕ). (value tt, o))
+        (sets-eq (record_of x) found 0 (omega arith) ∙ ap (λ (i : ℕ). record_of x ++ drop i found) (zero-add (length (record_of x)) ∙ n)))

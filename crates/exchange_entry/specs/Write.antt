@@ -4,9 +4,10 @@ use Rattle.std.specs.Prelude.{List, ℕ, Float}
 use Rattle.common.specs.Outcome.{Outcome, value, refused, number_in}
 use Rattle.record.specs.Record.{report}
 use Rattle.exchange_record.specs.declared.Pair.{Pair}
+use Rattle.exchange_record.specs.Reading.{pair_by}
 use Rattle.exchange_writer.specs.declared.Point.{Point}
 use Rattle.exchange_writer.specs.Point.{point_at}
-use Rattle.exchange_writer.specs.Written.{after, pair_by}
+use Rattle.exchange_writer.specs.Written.{after}
 use Rattle.exchange_entry.specs.Call.{entry_rule}
 
 abbrev pub write_rule : Point → List ℕ → Outcome Unit × List ℕ

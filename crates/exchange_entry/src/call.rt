@@ -1,15 +1,15 @@
 // From a point to its entry, and from a record to both.
 ghost use Rattle.std.specs.Prelude.{◌≡◌};
 ghost use Rattle.common.specs.Outcome.{value};
-ghost use Rattle.common.specs.Answer.{paper_verdict};
+ghost use Rattle.common.specs.Answer.{paper};
 ghost use Rattle.record.specs.Record.{report, paper_record};
 ghost use Rattle.exchange_entry.specs.Call.{entry_rule, exchange_of, paper_exchange, heard, verdict_number, verdict_pair, Exchanged};
 
-use crate::{ExchangeAnswer, ExchangeRefusal, ExchangeVerdict};
-use common::{Verdict, number};
-use exchange_record::{Asked, Pair, ReadAnswer, pair_byte, read, read_number};
-use exchange_writer::{Point, point_of};
-use record::{Record, RecordAnswer, blank};
+use crate::{ExchangeAnswer, ExchangeRefusal};
+use common::Refusal;
+use exchange_record::{Asked, Pair, read};
+use exchange_writer::Point;
+use record::{Record, RecordAnswer};
 use region3::{hs_reg3, pT_reg3, ph_reg3, ps_reg3};
 use td_record::Td_reg3;
 
@@ -27,12 +27,12 @@ pub fn ask(given: Record, x: Point) -> RecordAnswer
 }
 
 // An entry's verdict, with the pair that was read.
-fn judged(pair: Pair, v: Verdict) -> ExchangeVerdict
-    ensures { heard result ≡ (value pair, paper_verdict v) }
+fn judged(pair: Pair, v: Result<(), Refusal>) -> Result<Pair, ExchangeRefusal>
+    ensures { heard result ≡ (value pair, paper v) }
 {
     match v {
-        Verdict::Accepted => ExchangeVerdict::Accepted(pair),
-        Verdict::Refused(k) => ExchangeVerdict::Refused(ExchangeRefusal::Entry(pair, k)),
+        Ok(()) => Ok(pair),
+        Err(k) => Err(ExchangeRefusal::Entry(pair, k)),
     }
 }
 
@@ -40,13 +40,10 @@ fn judged(pair: Pair, v: Verdict) -> ExchangeVerdict
 fn asked(given: Record, q: Asked) -> ExchangeAnswer
     ensures { paper_exchange result ≡ exchange_of (value q) }
 {
-    let pair = q.pair;
-    let answer = ask(given, point_of(q));
-    let v = answer.verdict;
-    let record = answer.record;
+    let a = ask(given, q.into());
     ExchangeAnswer {
-        verdict: judged(pair, v),
-        record,
+        verdict: judged(q.pair, a.verdict),
+        record: a.record,
     }
 }
 
@@ -55,48 +52,32 @@ pub fn answer(given: Record, s: &[u8]) -> ExchangeAnswer
     ensures { Exchanged s.now (paper_exchange result) }
 {
     match read(s) {
-        ReadAnswer::Value(q) => asked(given, q),
-        ReadAnswer::Refused(k) => ExchangeAnswer {
-            verdict: ExchangeVerdict::Refused(ExchangeRefusal::Reader(k)),
-            record: blank(),
+        Ok(q) => asked(given, q),
+        Err(k) => ExchangeAnswer {
+            verdict: Err(k.into()),
+            record: Record::default(),
         },
     }
 }
 
-fn refusal_number(k: ExchangeRefusal) -> u8
-    ensures { result ≡ verdict_number (ExchangeVerdict.Refused k) }
-{
-    match k {
-        ExchangeRefusal::Reader(j) => read_number(j),
-        ExchangeRefusal::Entry(_, j) => number(j),
-    }
-}
-
 // The number of a verdict, 0 where it is accepted.
-pub fn verdict_number(v: ExchangeVerdict) -> u8
+// Kept: beside exchange_writer's `write_number` and common's `refusal_byte`, each with a promise by its own refusals' definition: one generic over
+// `K: Into<u8>` could promise only what the `from_gives` of any K says, and each of the three would still have to say which number that is.
+pub fn verdict_number(v: Result<Pair, ExchangeRefusal>) -> u8
     ensures { result ≡ verdict_number v }
 {
     match v {
-        ExchangeVerdict::Accepted(_) => 0,
-        ExchangeVerdict::Refused(k) => refusal_number(k),
-    }
-}
-
-fn refusal_pair(k: ExchangeRefusal) -> u8
-    ensures { result ≡ verdict_pair (ExchangeVerdict.Refused k) }
-{
-    match k {
-        ExchangeRefusal::Reader(_) => 0,
-        ExchangeRefusal::Entry(pair, _) => pair_byte(pair),
+        Ok(_) => 0,
+        Err(k) => k.into(),
     }
 }
 
 // The byte of the pair that was read, 0 where none was.
-pub fn verdict_pair(v: ExchangeVerdict) -> u8
+pub fn verdict_pair(v: Result<Pair, ExchangeRefusal>) -> u8
     ensures { result ≡ verdict_pair v }
 {
     match v {
-        ExchangeVerdict::Accepted(pair) => pair_byte(pair),
-        ExchangeVerdict::Refused(k) => refusal_pair(k),
+        Ok(pair) | Err(ExchangeRefusal::Entry(pair, _)) => pair.into(),
+        Err(ExchangeRefusal::Reader(_)) => 0,
     }
 }

@@ -14,7 +14,9 @@ use lib.Seq.{length-take-le, take_at, drop_at}
 use borrow.Author.Tests.{le-leb, lt-leb}
 use Rattle.common.specs.Outcome.{Outcome, value, refused}
 use Rattle.exchange_record.specs.declared.Asked.{Asked}
-use Rattle.exchange_record.specs.Grammar.{Field, said, Whole, AllWhole, spelt, encoded, word, known, Forms, Accepted, Cut, tag_alone, half_a_length, short, Course, skipped, taken, stopped, fate_of, last_tag, pair_among, RefusedAfter, cut, stop, skip, take, unpaired, Refused}
+use Rattle.exchange_record.specs.Grammar.{Field, said, Whole, AllWhole, spelt, encoded, word, known, Forms, Accepted, Cut, tag_alone, half_a_length, short}
+use Rattle.exchange_record.specs.Grammar.{Course, skipped, taken, stopped, fate_of, last_tag, pair_among, RefusedAfter, cut, stop, skip, take, unpaired}
+use Rattle.exchange_record.specs.Grammar.{Refused}
 use Rattle.exchange_record.specs.Reading.{Means}
 use Rattle.exchange_record.specs.Walk.{seen_of, asked_by, finished}
 use Rattle.exchange_record.proofs.Pairs.{rising, no_asked}

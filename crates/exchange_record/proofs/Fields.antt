@@ -1,18 +1,18 @@
--- A field of a list of bytes by the index that it starts at, and what its course shows of it. Assumes nothing.
+-- What a field's course shows of it, and the first field of some bytes. Assumes nothing.
 use mathlib.Core.Path.{◌≡◌, refl, sym, ap, ◌∙◌}
 use mathlib.Core.Bool.{Bool, true, false, cond, ◌&&◌}
 use mathlib.Core.Logic.{inl, inr}
 use mathlib.Core.List.{List, [], ◌∷◌, ◌++◌}
-use Prim.Native.Nat.{ℕ, suc, ◌+◌, ◌-◌, ◌≤◌, ◌<◌}
+use Prim.Native.Nat.{◌*◌, ℕ, ◌+◌, ◌-◌, ◌≤◌, ◌<◌}
 use native.Mathlib.Omega.{arith}
 use lib.Dec.{leb, ltb, eqb}
-use lib.ListN.{length, get_or, take, drop, length-drop, take-append-drop}
-use lib.Seq.{drop-cons, length-take-le, drop-drop}
+use lib.ListN.{length, get_or, take, drop, take-append-drop}
+use Rattle.std.proofs.lemmas.List.{take_all}
 use borrow.Author.Tests.{eqb-true, eq-eqb, lt-leb, le-leb, lt-ltb}
-use Rattle.exchange_record.specs.Grammar.{Field, spelt, word, Cut, tag_alone, half_a_length, short, Course, skipped, taken, stopped, fate_of}
-use Rattle.exchange_record.specs.Walk.{two_at, size_at, last_of, added, FieldAt, Passed, Stops}
-use Rattle.exchange_record.specs.declared.Cursor.{Cursor}
+use Rattle.std.specs.List.{IsSplitAt}
 use Rattle.exchange_record.specs.declared.Seen.{Seen}
+use Rattle.exchange_record.specs.Walk.{last_of, added, Passed, Stops}
+use Rattle.exchange_record.specs.Grammar.{Field, spelt, word, Cut, tag_alone, half_a_length, short, Course, skipped, taken, stopped, fate_of}
 
 -- ---- what a field's course shows of it
 
@@ -63,76 +63,52 @@ module _ (last tag n : ℕ) where
   is_taken a b e h =
       rw (lt-leb 128 tag (omega arith), lt-ltb 0 tag a, le-leb tag 5 b, eq-eqb n 8 e, lt-leb tag last h)
 
--- ---- the bytes at an index
+-- ---- the first field, by the bytes that a pattern takes apart
 
-three : (s : List ℕ) (i : ℕ) → i + 3 ≤ length s → drop i s ≡ get_or s i 0 ∷ get_or s (i + 1) 0 ∷ get_or s (i + 2) 0 ∷ drop (i + 3) s
-three s i h =
-    let e1 : i + 1 ≡ suc i = omega arith in
-    let e2 : i + 2 ≡ suc (suc i) = omega arith in
-    let e3 : i + 3 ≡ suc (suc (suc i)) = omega arith in
-    rw (e1, e2, e3)
-    (drop-cons s i 0 (omega arith)
-    ∙ ap (λ (l : List ℕ). get_or s i 0 ∷ l) (drop-cons s (suc i) 0 (omega arith)
-    ∙ ap (λ (l : List ℕ). get_or s (suc i) 0 ∷ l) (drop-cons s (suc (suc i)) 0 (omega arith))))
+-- what follows a header
+abbrev pub tail : List ℕ → List ℕ
+tail s = take (length s - 3) (drop 3 s)
 
--- the length of the field there
-pub sized : (s : List ℕ) (i n : ℕ) → n ≡ two_at s (i + 1) → n ≡ size_at s i
-sized s i n e = let h : i + 1 + 1 ≡ i + 2 = omega arith in rw h at e
+headed : (s : List ℕ) → 3 ≤ length s → s ≡ get_or s 0 0 ∷ get_or s 1 0 ∷ get_or s 2 0 ∷ tail s
+headed [] k = absurd (omega arith)
+headed (t ∷ []) k = absurd (omega arith)
+headed (t ∷ h ∷ []) k = absurd (omega arith)
+headed (t ∷ h ∷ l ∷ b) k =
+    let e : length (t ∷ h ∷ l ∷ b) - 3 ≡ length b = omega arith in
+    ap (λ (r : List ℕ). t ∷ h ∷ l ∷ r) (sym (ap (λ (n : ℕ). take n b) e ∙ take_all (length b) b (omega arith)))
 
-too_few : (l : List ℕ) → 0 < length l → length l < 3 → Cut l
-too_few [] a b = absurd (omega arith)
-too_few (t ∷ []) a b = tag_alone t
-too_few (t ∷ h ∷ []) a b = half_a_length t h
-too_few (t ∷ h ∷ n ∷ l) a b = absurd (omega arith)
+pub cut_header : (s : List ℕ) → 0 < length s → length s < 3 → Cut s
+cut_header [] a b = absurd (omega arith)
+cut_header (t ∷ []) a b = tag_alone t
+cut_header (t ∷ h ∷ []) a b = half_a_length t h
+cut_header (t ∷ h ∷ n ∷ l) a b = absurd (omega arith)
 
--- a header that runs past the end
-pub cut_header : (s : List ℕ) (i : ℕ) → i < length s → length s - i < 3 → Cut (drop i s)
-cut_header s i h k = too_few (drop i s) (rw length-drop (omega arith)) (rw length-drop k)
+module _ (s : List ℕ) (n : ℕ) (long : 3 ≤ length s) (size : n ≡ 256 * get_or s 1 0 + get_or s 2 0) where
+  pub cut_body : length (tail s) < n → Cut s
+  cut_body k = rw (headed s long) (short (get_or s 0 0) (get_or s 1 0) (get_or s 2 0) (tail s) (omega arith))
 
--- bytes that run past the end
-pub cut_body : (s : List ℕ) (i n : ℕ) → n ≡ size_at s i → 3 ≤ length s - i → length s - i - 3 < n → Cut (drop i s)
-cut_body s i n e h k =
-    rw (three s i (omega arith)) (short (get_or s i 0) (get_or s (i + 1) 0) (get_or s (i + 2) 0) (drop (i + 3) s) (rw length-drop (omega arith)))
+  module _ (seen : Seen) (last : ℕ) (latest : last ≡ last_of seen) (front rest : List ℕ) (parts : IsSplitAt (tail s) n front rest) where
+    first : Field
+    first = record { tag = get_or s 0 0; high = get_or s 1 0; low = get_or s 2 0; body = front }
 
-module _ (s : List ℕ) (i n : ℕ) (size : n ≡ size_at s i) (header : 3 ≤ length s - i) (room : n ≤ length s - i - 3) where
-  abbrev pub field_of : Field
-  field_of = record { tag = get_or s i 0; high = get_or s (i + 1) 0; low = get_or s (i + 2) 0; body = take n (drop (i + 3) s) }
+    bytes_are : s ≡ spelt first ++ rest
+    unfolding first
+    bytes_are =
+        headed s long
+        ∙ ap (λ (l : List ℕ). get_or s 0 0 ∷ get_or s 1 0 ∷ get_or s 2 0 ∷ l) (sym (take-append-drop n (tail s)) ∙ rw (parts.1, parts.2))
 
-  pub body_size : length (take n (drop (i + 3) s)) ≡ n
-  body_size = length-take-le n (drop (i + 3) s) (rw length-drop (omega arith))
+    course_here : (o : Course) → fate_of last (get_or s 0 0) n ≡ o → fate_of (last_of seen) (get_or s 0 0) (256 * get_or s 1 0 + get_or s 2 0) ≡ o
+    course_here o e = rw (← latest, ← size) e
 
-  pub bytes_are : drop i s ≡ spelt field_of ++ drop (i + 3 + n) s
-  bytes_are =
-      three s i (omega arith)
-      ∙ ap (λ (l : List ℕ). get_or s i 0 ∷ get_or s (i + 1) 0 ∷ get_or s (i + 2) 0 ∷ l)
-      (sym (take-append-drop n (drop (i + 3) s)) ∙ ap (λ (l : List ℕ). take n (drop (i + 3) s) ++ l) (drop-drop n (i + 3) s))
+    pub passes : fate_of last (get_or s 0 0) n ≡ skipped → Passed s seen seen rest
+    unfolding first
+    passes e = record { field = first; whole = parts.3 ∙ size; bytes = bytes_are; course = inl (course_here skipped e, refl) }
 
-  abbrev pub field_at : FieldAt s i (i + 3 + n)
-  field_at =
-      record { field = field_of; whole = body_size ∙ size; bytes = bytes_are; further = omega arith; within = omega arith }
+    pub takes : fate_of last (get_or s 0 0) n ≡ taken → (after : Seen) → after ≡ added seen (record { tag = get_or s 0 0; bits = word front })
+        → Passed s seen after rest
+    unfolding first
+    takes e after k = record { field = first; whole = parts.3 ∙ size; bytes = bytes_are; course = inr (course_here taken e, k) }
 
--- ---- one step of the reader
-
-module _ (s : List ℕ) (c : Cursor) (n last : ℕ) (size : n ≡ size_at s c.at) (header : 3 ≤ length s - c.at)
-    (room : n ≤ length s - c.at - 3) (latest : last ≡ last_of c.seen) where
-  course_here : (o : Course) → fate_of last (get_or s c.at 0) n ≡ o → fate_of (last_of c.seen) (get_or s c.at 0) (size_at s c.at) ≡ o
-  course_here o e = rw (← latest, ← size) e
-
-  pub passes : fate_of last (get_or s c.at 0) n ≡ skipped → Passed s c (record { at = c.at + 3 + n; seen = c.seen })
-  passes e = record { here = field_at s c.at n size header room; course = inl (course_here skipped e, refl) }
-
-  pub takes : fate_of last (get_or s c.at 0) n ≡ taken → (m : Seen) (w : ℕ) → w ≡ word (take 8 (drop (c.at + 3) s))
-      → m ≡ added c.seen (get_or s c.at 0) w → Passed s c (record { at = c.at + 3 + n; seen = m })
-  takes e m w h k =
-      let z : n ≡ 8 = taken_size last (get_or s c.at 0) n e in
-      record {
-        here = field_at s c.at n size header room;
-        course =
-            inr (
-              course_here taken e,
-              k ∙ ap (added c.seen (get_or s c.at 0)) (h ∙ ap (λ (j : ℕ). word (take j (drop (c.at + 3) s))) (sym z)),
-            );
-      }
-
-  pub stops : (k : ℕ) → fate_of last (get_or s c.at 0) n ≡ stopped k → Stops s c k
-  stops k e = record { next = c.at + 3 + n; here = field_at s c.at n size header room; course = course_here (stopped k) e }
+    pub stops : (k : ℕ) → fate_of last (get_or s 0 0) n ≡ stopped k → Stops s seen k
+    unfolding first
+    stops k e = inr (record { field = first; rest = rest; whole = parts.3 ∙ size; bytes = bytes_are; course = course_here (stopped k) e })

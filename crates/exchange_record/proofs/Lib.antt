@@ -1,4 +1,3 @@
-pub mod Bytes
 pub mod Pairs
 pub mod Fields
 pub mod Walk

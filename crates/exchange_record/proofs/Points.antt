@@ -1,6 +1,6 @@
 -- The points of the exchange record (docs/SCOPE.md), worked out from the grammar and the refusals in one statement, and some that a rule read in another way
--- would answer otherwise: skipped tags of any length anywhere, a tag that is not above the last known one, a skipped field between them, and a NaN, which is the
--- entry's matter. Worked out by antt. Assumes nothing.
+-- would answer otherwise: skipped tags of any length anywhere, a tag that is not above the last known one, a skipped field between them, and a NaN, which is
+-- the entry's matter. Worked out by antt. Assumes nothing.
 use mathlib.Core.Path.{◌≡◌, refl}
 use mathlib.Core.List.{List, [], ◌∷◌, ◌++◌}
 use Prim.Native.Nat.{ℕ, suc}
@@ -46,7 +46,8 @@ pub data Row : Type 0 where
 abbrev pub table : List Row
 table =
     row (p_field ++ T_field) (value (record { pair = PT; a = 0x4038_0000_0000_0000; b = 0x4084_5000_0000_0000 })) ∷
-    row ((200 ∷ 0 ∷ 0 ∷ []) ++ p_field ++ (128 ∷ 0 ∷ 3 ∷ 97 ∷ 98 ∷ 99 ∷ []) ++ T_field ++ (255 ∷ 1 ∷ 44 ∷ replicate 300 90)) (value (record { pair = PT; a = 0x4038_0000_0000_0000; b = 0x4084_5000_0000_0000 })) ∷
+    row ((200 ∷ 0 ∷ 0 ∷ []) ++ p_field ++ (128 ∷ 0 ∷ 3 ∷ 97 ∷ 98 ∷ 99 ∷ []) ++ T_field ++ (255 ∷ 1 ∷ 44 ∷ replicate 300 90))
+    (value (record { pair = PT; a = 0x4038_0000_0000_0000; b = 0x4084_5000_0000_0000 })) ∷
     row ([]) (refused 14) ∷
     row (p_field) (refused 14) ∷
     row (p_field ++ d_field) (refused 14) ∷
@@ -78,18 +79,25 @@ abbrev pub Holds : List Row → Type 0
 Holds [] = Unit
 Holds (row s o ∷ rs) = Means s o × Holds rs
 
-Decided : List Row → Type 0
-Decided [] = Unit
-Decided (row s o ∷ rs) = (decided (suc (length s)) [] s ≡ o) × Decided rs
+decided_rows : List Row → List (Outcome Asked)
+decided_rows [] = []
+decided_rows (row s o ∷ rs) = decided (suc (length s)) [] s ∷ decided_rows rs
 
-holds : (rs : List Row) → Decided rs → Holds rs
-unfolding Decided
-holds [] d = tt
-holds (row s o ∷ rs) d = (rw d.0 at (decided_means s), holds rs d.1)
+told_rows : List Row → List (Outcome Asked)
+told_rows [] = []
+told_rows (row s o ∷ rs) = o ∷ told_rows rs
 
-all_decided : Decided table
-unfolding Decided decided on_front on_course front_of body fate_of asked_by
-all_decided = (refl, (refl, (refl, (refl, (refl, (refl, (refl, (refl, (refl, (refl, (refl, (refl, (refl, (refl, (refl, (refl, (refl, (refl, (refl, (refl, (refl, (refl, (refl, (refl, (refl, (refl, tt))))))))))))))))))))))))))
+holds : (rs : List Row) → decided_rows rs ≡ told_rows rs → Holds rs
+unfolding decided_rows told_rows
+holds [] e = tt
+holds (row s o ∷ rs) e =
+    let first : decided (suc (length s)) [] s ≡ o = cc in
+    let rest : decided_rows rs ≡ told_rows rs = cc in
+    (rw first at (decided_means s), holds rs rest)
+
+all_decided : decided_rows table ≡ told_rows table
+unfolding decided_rows told_rows decided on_front on_course front_of body fate_of asked_by
+all_decided = refl
 
 pub points : Holds table
 points = holds table all_decided

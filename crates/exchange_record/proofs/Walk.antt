@@ -2,16 +2,18 @@
 use mathlib.Core.Path.{◌≡◌, refl, ap, ◌∙◌}
 use mathlib.Core.Logic.{◌⊎◌, inl, inr, ⊎_elim}
 use mathlib.Core.List.{List, [], ◌∷◌, ◌++◌}
-use Prim.Native.Nat.{ℕ, ◌≤◌}
-use native.Mathlib.Omega.{arith}
-use lib.ListN.{length, drop, drop_of_length-le}
+use Prim.Native.Nat.{ℕ}
+use lib.ListN.{length}
 use Rattle.common.specs.Outcome.{Outcome, value, refused}
 use Rattle.exchange_record.specs.declared.Asked.{Asked}
 use Rattle.exchange_record.specs.declared.Pair.{Pair}
-use Rattle.exchange_record.specs.declared.Cursor.{Cursor}
-use Rattle.exchange_record.specs.Grammar.{Field, said, Whole, AllWhole, spelt, encoded, word, known, pair_of, Forms, Cut, skipped, taken, fate_of, last_tag, RefusedAfter, cut, stop, skip, take, unpaired, Refused}
+use Rattle.exchange_record.specs.Grammar.{Field, said, Whole, AllWhole, spelt, encoded, word, known, pair_of, Forms, skipped, taken, fate_of, last_tag}
+use Rattle.exchange_record.specs.Grammar.{RefusedAfter, cut, stop, skip, take, unpaired, Refused}
 use Rattle.exchange_record.specs.Reading.{Means}
-use Rattle.exchange_record.specs.Walk.{last_of, added, seen_of, asked_by, finished, Passed, Stops}
+use Rattle.exchange_record.specs.Walk.{last_of, added, kept, seen_of, asked_by, finished, Passed, Stops}
+use Rattle.exchange_record.specs.declared.Seen.{Seen}
+use Rattle.exchange_record.specs.declared.Seen.TheVariants.{Nothing}
+use Rattle.std.proofs.lemmas.List.{nil_from_length}
 use Rattle.exchange_record.proofs.Pairs.{paired_or_not}
 use Rattle.exchange_record.proofs.Fields.{taken_size, taken_known, skipped_unknown}
 
@@ -91,67 +93,49 @@ last_seen (x ∷ []) = refl
 last_seen (y ∷ x ∷ []) = refl
 last_seen (z ∷ y ∷ x ∷ fs) = refl
 
-add_seen : (f : Field) (before : List Field) → added (seen_of before) f.tag (word f.body) ≡ seen_of (f ∷ before)
+add_seen : (f : Field) (before : List Field) → added (seen_of before) (kept f) ≡ seen_of (f ∷ before)
 add_seen f [] = refl
 add_seen f (x ∷ []) = refl
 add_seen f (y ∷ x ∷ []) = refl
 add_seen f (z ∷ y ∷ x ∷ fs) = refl
 
-pub record Reached (s : List ℕ) (c : Cursor) : Type 0 where
+pub record Reached (s : List ℕ) (seen : Seen) (rest : List ℕ) : Type 0 where
   pub before : List Field
   pub eight : AllEight before
-  pub within : c.at ≤ length s
-  pub seen : c.seen ≡ seen_of before
-  pub rest : (o : Outcome Asked) → MeansAfter before (drop c.at s) o → Means s o
+  pub kept : seen ≡ seen_of before
+  pub means : (o : Outcome Asked) → MeansAfter before rest o → Means s o
 
-module _ (s : List ℕ) (c : Cursor) (r : Reached s c) where
-  latest : last_of c.seen ≡ last_tag r.before
-  latest = ap last_of r.seen ∙ last_seen r.before
+module _ (s : List ℕ) (seen : Seen) (rest : List ℕ) (r : Reached s seen rest) where
+  latest : last_of seen ≡ last_tag r.before
+  latest = ap last_of r.kept ∙ last_seen r.before
 
-  pub goes_on : (d : Cursor) → Passed s c d → Reached s d
-  goes_on d p = ⊎_elim over into p.course
+  pub goes_on : (after : Seen) (left : List ℕ) → Passed rest seen after left → Reached s after left
+  goes_on after left p = ⊎_elim over into p.course
     where
-      f : Field
-      f = p.here.field
-
-      over : (fate_of (last_of c.seen) p.here.field.tag (said p.here.field) ≡ skipped) × (d.seen ≡ c.seen) → Reached s d
+      over : (fate_of (last_of seen) p.field.tag (said p.field) ≡ skipped) × (after ≡ seen) → Reached s after left
       over h =
           record {
             before = r.before;
             eight = r.eight;
-            within = p.here.within;
-            seen = h.1 ∙ r.seen;
-            rest =
-                λ o m.
-                r.rest o
-                (skipping r.before (drop c.at s) p.here.field (drop d.at s) p.here.bytes p.here.whole (rw (← latest) h.0) o m);
+            kept = h.1 ∙ r.kept;
+            means = λ o m. r.means o (skipping r.before rest p.field left p.bytes p.whole (rw (← latest) h.0) o m);
           }
 
-      into : (fate_of (last_of c.seen) p.here.field.tag (said p.here.field) ≡ taken)
-          × (d.seen ≡ added c.seen p.here.field.tag (word p.here.field.body)) → Reached s d
+      into : (fate_of (last_of seen) p.field.tag (said p.field) ≡ taken) × (after ≡ added seen (kept p.field)) → Reached s after left
       into h =
           record {
-            before = p.here.field ∷ r.before;
-            eight = (p.here.whole ∙ taken_size _ _ _ h.0, r.eight);
-            within = p.here.within;
-            seen =
-                h.1 ∙ ap (λ m. added m p.here.field.tag (word p.here.field.body)) r.seen ∙ add_seen p.here.field r.before;
-            rest =
-                λ o m.
-                r.rest o
-                (taking r.before (drop c.at s) p.here.field (drop d.at s) p.here.bytes p.here.whole (rw (← latest) h.0) o m);
+            before = p.field ∷ r.before;
+            eight = (p.whole ∙ taken_size _ _ _ h.0, r.eight);
+            kept = h.1 ∙ ap (λ m. added m (kept p.field)) r.kept ∙ add_seen p.field r.before;
+            means = λ o m. r.means o (taking r.before rest p.field left p.bytes p.whole (rw (← latest) h.0) o m);
           }
 
-  pub cut_off : Cut (drop c.at s) → Refused s 10
-  cut_off k = r.rest (refused 10) (cut k)
+  pub stops : (n : ℕ) → Stops rest seen n → Refused s n
+  stops n (inl (c, e)) = rw e (r.means (refused 10) (cut c))
+  stops n (inr k) = r.means (refused n) (stop k.field k.rest k.bytes k.whole (rw (← latest) k.course))
 
-  pub stopped_by : (n : ℕ) → Stops s c n → Refused s n
-  stopped_by n k =
-      r.rest (refused n) (stop k.here.field (drop k.next s) k.here.bytes k.here.whole (rw (← latest) k.course))
+  pub ends : length rest ≡ 0 → Means s (finished seen)
+  ends e = r.means (finished seen) (rw (nil_from_length rest e, r.kept) (at_end r.before r.eight))
 
-  pub ends : length s ≤ c.at → Means s (finished c.seen)
-  ends h = r.rest (finished c.seen) (rw (drop_of_length-le s h, r.seen) (at_end r.before r.eight))
-
-pub starts : (s : List ℕ) (c : Cursor) → c.at ≡ 0 → c.seen ≡ seen_of [] → Reached s c
-starts s c e h =
-    record { before = []; eight = tt; within = omega arith; seen = h; rest = λ o m. from_none s o (rw e at m) }
+pub starts : (s : List ℕ) → Reached s Nothing s
+starts s = record { before = []; eight = tt; kept = refl; means = from_none s }

@@ -1,101 +1,71 @@
-// One field: what becomes of it, and the cursor past it.
-ghost use Rattle.std.specs.Prelude.{◌≡◌, ◌&&◌, ltb, leb, ◌+◌, ◌≤◌, ◌<◌, length};
-ghost use Rattle.exchange_record.specs.Grammar.{fate_of};
-ghost use Rattle.exchange_record.specs.Walk.{paper_fate, low_fate, last_of, added, size_at, Stepped};
+// One field: what becomes of it, and the bytes after it.
+ghost use Rattle.std.specs.Prelude.{◌≡◌, ◌&&◌, ltb, leb, ◌+◌, ◌*◌, ◌<◌, length, MatchResult};
+ghost use Rattle.exchange_record.specs.Grammar.{word, fate_of};
+ghost use Rattle.exchange_record.specs.Reading.{read_number};
+ghost use Rattle.exchange_record.specs.Walk.{paper_fate, Passed, Stops};
 
-use crate::number::{two_at, word_at};
-use crate::{Cursor, Fate, ReadRefusal, Seen, Step};
-
-// The last known tag, 0 where there was none.
-fn last_of(seen: Seen) -> u8
-    ensures { result ≡ last_of seen }
-{
-    match seen {
-        Seen::Nothing => 0,
-        Seen::One(x, _) => x,
-        Seen::Two(_, _, y, _) => y,
-        Seen::More(z) => z,
-    }
-}
-
-fn add(seen: Seen, tag: u8, bits: u64) -> Seen
-    ensures { result ≡ added seen tag bits }
-{
-    match seen {
-        Seen::Nothing => Seen::One(tag, bits),
-        Seen::One(x, a) => Seen::Two(x, a, tag, bits),
-        Seen::Two(_, _, _, _) => Seen::More(tag),
-        Seen::More(_) => Seen::More(tag),
-    }
-}
-
-fn cursor(at: usize, seen: Seen) -> Cursor
-    ensures { result ≡ record { at = at; seen = seen } }
-{
-    Cursor { at, seen }
-}
+use crate::{Fate, Known, ReadRefusal, Seen};
 
 // The tags of p, T, d, h, s.
 fn known(tag: u8) -> bool
     ensures { result ≡ (ltb 0 tag && leb tag 5) }
 {
-    if 0 < tag { tag <= 5 } else { false }
+    (1..=5).contains(&tag)
 }
 
-// A field with a tag below 128: 11, 12, 13 in this order, or it is taken.
-fn judge_low(last: u8, tag: u8, size: usize) -> Fate
-    ensures { paper_fate result ≡ low_fate last tag size }
-{
-    let ours = known(tag);
-    if !ours {
-        return Fate::Stopped(ReadRefusal::UnknownTag);
-    }
-    if size != 8 {
-        return Fate::Stopped(ReadRefusal::WrongLength);
-    }
-    if tag <= last {
-        return Fate::Stopped(ReadRefusal::OutOfOrder);
-    }
-    Fate::Taken
-}
-
-fn judge(last: u8, tag: u8, size: usize) -> Fate
+#[tactic(auto, unfolding(crate::specs::Grammar::fate_of))]
+fn judge(last: u8, tag: u8, size: usize) -> Result<Fate, ReadRefusal>
     ensures { paper_fate result ≡ fate_of last tag size }
 {
     if 128 <= tag {
-        return Fate::Skipped;
+        return Ok(Fate::Skipped);
     }
-    judge_low(last, tag, size)
+    if !known(tag) {
+        return Err(ReadRefusal::UnknownTag);
+    }
+    if size != 8 {
+        return Err(ReadRefusal::WrongLength);
+    }
+    if tag <= last {
+        return Err(ReadRefusal::OutOfOrder);
+    }
+    Ok(Fate::Taken)
 }
 
-// A whole field at the cursor: it is skipped, taken, or stops the reader.
-fn pass(s: &[u8], c: Cursor, size: usize) -> Step
-    requires { (c.at + 3 + size ≤ length s.now) × (size ≡ size_at s.now c.at) }
-    ensures { Stepped s.now c result }
+// The length that a field's two bytes say, the high one first.
+fn said(high: u8, low: u8) -> usize
+    ensures { result ≡ 256 * high + low }
 {
-    let at = c.at;
-    let seen = c.seen;
-    let tag = s[at];
-    match judge(last_of(seen), tag, size) {
-        Fate::Skipped => Step::Next(cursor(at + 3 + size, seen)),
-        Fate::Taken => Step::Next(cursor(at + 3 + size, add(seen, tag, word_at(s, at + 3)))),
-        Fate::Stopped(k) => Step::Stopped(k),
-    }
+    usize::from(u16::from_be_bytes([high, low]))
 }
 
-// The field at the cursor. A length is held against the bytes that are left before it is gone by.
-pub fn step(s: &[u8], c: Cursor) -> Step
-    requires { c.at < length s.now }
-    ensures { Stepped s.now c result }
+// The eight bytes of a number, the high byte first.
+fn word_of(b: &[u8]) -> u64
+    requires { length b.now ≡ 8 }
+    ensures { result ≡ word b.now }
 {
-    let at = c.at;
-    let left = s.len() - at;
-    if left < 3 {
-        return Step::Stopped(ReadRefusal::PastEnd);
-    }
-    let size = two_at(s, at + 1);
-    if left - 3 < size {
-        return Step::Stopped(ReadRefusal::PastEnd);
-    }
-    pass(s, c, size)
+    u64::from_be_bytes(<[u8; 8]>::try_from(b).unwrap())
+}
+
+// The first field is skipped, taken, or stops the reader: what was seen with it, and the bytes after it. Its length is held against the bytes that are left
+// before they are gone by.
+pub fn step(s: &[u8], seen: Seen) -> Result<(Seen, &[u8]), ReadRefusal>
+    requires { 0 < length s.now }
+    ensures { MatchResult result (λ p. Passed s.now seen p.0 p.1.now) (λ k. Stops s.now seen (read_number k)) }
+{
+    let [tag, high, low, rest @ ..] = s else {
+        return Err(ReadRefusal::PastEnd);
+    };
+    let size = said(*high, *low);
+    let Some((body, rest)) = rest.split_at_checked(size) else {
+        return Err(ReadRefusal::PastEnd);
+    };
+    let seen = match judge(seen.last(), *tag, size)? {
+        Fate::Skipped => seen,
+        Fate::Taken => seen.with(Known {
+            tag: *tag,
+            bits: word_of(body),
+        }),
+    };
+    Ok((seen, rest))
 }

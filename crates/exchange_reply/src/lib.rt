@@ -6,8 +6,8 @@ ghost use Rattle.record.specs.Record.{paper_record};
 ghost use Rattle.exchange_record.specs.Reading.{read_number};
 ghost use Rattle.exchange_reply.specs.Bytes.{asked_bytes, refused_bytes};
 
-use buffer::{put_word, wide};
-use exchange_record::{Asked, ReadRefusal, pair_byte, read_number};
+use buffer::put_word;
+use exchange_record::{Asked, ReadRefusal};
 use record::RecordAnswer;
 use reply::{put_reply, record_reply};
 
@@ -15,9 +15,8 @@ use reply::{put_reply, record_reply};
 pub fn asked_bytes(q: Asked, a: RecordAnswer) -> [u8; 112]
     ensures { result ≡ asked_bytes q (paper_record a) }
 {
-    let mut out = [0u8; 112];
-    let pair = q.pair;
-    put_word(&mut out, 0, 256 * wide(pair_byte(pair)));
+    let mut out = [0; 112];
+    out[1] = q.pair.into();
     put_word(&mut out, 8, q.a);
     put_word(&mut out, 16, q.b);
     put_reply(&mut out, 24, record_reply(a));
@@ -28,7 +27,7 @@ pub fn asked_bytes(q: Asked, a: RecordAnswer) -> [u8; 112]
 pub fn refused_bytes(k: ReadRefusal) -> [u8; 112]
     ensures { result ≡ refused_bytes (read_number k) }
 {
-    let mut out = [0u8; 112];
-    out[0] = read_number(k);
+    let mut out = [0; 112];
+    out[0] = k.into();
     out
 }

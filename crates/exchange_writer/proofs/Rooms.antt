@@ -8,9 +8,10 @@ use lib.Ieee.{to_bits}
 use Rattle.common.specs.Outcome.{value, refused}
 use Rattle.common.specs.Decimal.{whole, scaled}
 use Rattle.exchange_record.specs.declared.Pair.TheVariants as pair
+use Rattle.exchange_record.specs.Reading.{pair_by}
 use Rattle.exchange_writer.specs.declared.Point.{Point}
 use Rattle.exchange_writer.specs.declared.Point.TheVariants as at
-use Rattle.exchange_writer.specs.Written.{after, pair_by}
+use Rattle.exchange_writer.specs.Written.{after}
 
 abbrev point : Point
 point = at.PT (record { 0 = whole 24 }) (record { 0 = whole 650 })

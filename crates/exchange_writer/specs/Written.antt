@@ -1,23 +1,18 @@
 -- To believe: the record of a point, in the grammar that the reader goes by, and where it is written, by its entry's verdict: that refusal, then 16, then 22
--- bytes at the front and every other byte as found; and the pair that a byte names. Assumes nothing: these are definitions.
-use Rattle.std.specs.Prelude.{cond, List, [], ◌∷◌, ℕ, ◌/◌, ◌%◌, ◌^◌, eqb, ltb, length, Float}
+-- bytes at the front and every other byte as found. Assumes nothing: these are definitions.
+use Rattle.std.specs.Prelude.{cond, List, [], ◌∷◌, ℕ, ◌/◌, ◌%◌, ◌^◌, ltb, length, Float, Result, Ok, Err}
 use Rattle.std.proofs.lemmas.List.Edits.{sets}
 use Rattle.std.specs.Float.{binary64}
 use Rattle.std.specs.Float.Ieee.{to_bits}
 use Rattle.common.specs.Outcome.{Outcome, value, refused}
 use Rattle.common.specs.Answer.{number_of}
 use Rattle.exchange_record.specs.declared.Asked.{Asked}
-use Rattle.exchange_record.specs.declared.Pair.{Pair}
 use Rattle.exchange_record.specs.declared.Pair.TheVariants as pair
 use Rattle.exchange_record.specs.Grammar.{Field, encoded}
 use Rattle.exchange_writer.specs.declared.Point.{Point}
 use Rattle.exchange_writer.specs.declared.Point.TheVariants as at
 use Rattle.exchange_writer.specs.declared.WriteRefusal.{WriteRefusal}
 use Rattle.exchange_writer.specs.declared.WriteRefusal.TheVariants.{Entry, Room}
-use Rattle.exchange_writer.specs.declared.WriteVerdict.{WriteVerdict}
-use Rattle.exchange_writer.specs.declared.WriteVerdict.TheVariants as verdict
-use Rattle.exchange_writer.specs.declared.PairAnswer.{PairAnswer}
-use Rattle.exchange_writer.specs.declared.PairAnswer.TheVariants as named
 
 -- the eight bytes of a number below 2^64, the high byte first
 abbrev pub high : ℕ → List ℕ
@@ -51,9 +46,9 @@ abbrev pub write_number : WriteRefusal → ℕ
 write_number (Entry k) = number_of k
 write_number Room = 16
 
-abbrev pub paper_write : WriteVerdict → Outcome Unit
-paper_write verdict.Accepted = value tt
-paper_write (verdict.Refused k) = refused (write_number k)
+abbrev pub paper_write : Result Unit WriteRefusal → Outcome Unit
+paper_write (Ok u) = value u
+paper_write (Err k) = refused (write_number k)
 
 -- what a point is, as the reader says it: its pair and the bits of its two numbers
 abbrev pub asked_for : Point → Asked
@@ -62,14 +57,3 @@ asked_for (at.TD t d) = record { pair = pair.TD; a = to_bits binary64 t.0; b = t
 asked_for (at.PH p h) = record { pair = pair.PH; a = to_bits binary64 p.0; b = to_bits binary64 h.0 }
 asked_for (at.PS p s) = record { pair = pair.PS; a = to_bits binary64 p.0; b = to_bits binary64 s.0 }
 asked_for (at.HS h s) = record { pair = pair.HS; a = to_bits binary64 h.0; b = to_bits binary64 s.0 }
-
--- the pair that a byte names, for callers that have no units: 255 where no pair has the byte
-abbrev pub pair_by : ℕ → Outcome Pair
-pair_by n =
-    cond (eqb n 1) (value pair.PT)
-    (cond (eqb n 2) (value pair.TD)
-    (cond (eqb n 3) (value pair.PH) (cond (eqb n 4) (value pair.PS) (cond (eqb n 5) (value pair.HS) (refused 255)))))
-
-abbrev pub paper_pair : PairAnswer → Outcome Pair
-paper_pair (named.Value p) = value p
-paper_pair named.Unknown = refused 255

@@ -21,9 +21,10 @@ pub fn point_at(pair: Pair, a: f64, b: f64) -> Point
 }
 
 // The point of what was read: the numbers of its bits, each under its unit.
-pub fn point_of(q: Asked) -> Point
-    ensures { result ≡ point_of q }
-{
-    let pair = q.pair;
-    point_at(pair, float_of(q.a), float_of(q.b))
+impl From<Asked> for Point {
+    ghost from_gives = { λ q r. r ≡ point_of q };
+
+    fn from(q: Asked) -> Point {
+        point_at(q.pair, float_of(q.a), float_of(q.b))
+    }
 }

@@ -1,5 +1,6 @@
 // The eleven further properties that work no p, by the formulas of the Rust's region3_Td_ext.rs, each raw: its number, or a NaN where a step of it is
 // lost.
+// Kept: T and d are two parameters of each call, as in the Rust, each with its unit.
 ghost use Rattle.common.specs.Outcome.{check};
 ghost use Rattle.common.specs.Number.{Number};
 ghost use Rattle.extended.specs.Ext.{Td2f, Td2g, Td2kt, Td2ec, Td2joule, Td2iJTC, Td2dvdpct, Td2dpdtcv, Td2dvdtcp, Td2e, Td2fi};

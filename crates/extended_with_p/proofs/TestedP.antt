@@ -2,7 +2,6 @@
 use Rattle.common.specs.Formula.{lost_or, Raw}
 use mathlib.Core.Path.{◌≡◌, refl, sym}
 use mathlib.Core.Bool.{Bool, true, false, cond}
-use Prim.Native.Nat.{ℕ}
 use lib.Ieee.{Float, nan, inf, fin}
 use Rattle.common.specs.Outcome.{Outcome, value, refused, finite, check, then}
 use Rattle.common.specs.Range.{within}
@@ -12,13 +11,6 @@ use Rattle.record.specs.State.{pressure_of}
 -- the number x that is worked from p
 abbrev pub from : Float → Float → Outcome Float
 from p x = then (pressure_of (check p)) (λ _. check x)
-
-module _ (p x : Float) {o : Outcome Float} (test : o ≡ pressure_of (check p)) where
-  pub from_value : (y : Float) → o ≡ value y → from p x ≡ check x
-  from_value y h = rw (← test, h)
-
-  pub from_refused : (k : ℕ) → o ≡ refused k → from p x ≡ refused k
-  from_refused k h = rw (← test, h)
 
 either : (b : Bool) (p : Float) (f g : Float → Outcome Float) → f p ≡ g p → then (cond b (value p) (refused 4)) f ≡ then (cond b (value p) (refused 4)) g
 either true p f g h = h

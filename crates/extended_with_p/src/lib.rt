@@ -1,5 +1,6 @@
 // The six further properties that work p, by the formulas of the Rust's region3_Td_ext.rs. They answer, since that p is range-tested at its place. The
 // checks of the box are the callers'.
+// Kept: T and d are two parameters of each call, as in the Rust, each with its unit.
 #![tactic(auto)]
 
 ghost use Rattle.std.specs.Prelude.{◌≡◌};
@@ -8,23 +9,21 @@ ghost use Rattle.common.specs.Answer.{paper};
 ghost use Rattle.record.specs.State.{pressure_of};
 ghost use Rattle.extended_with_p.specs.WithP.{Td2z, Td2ks, Td2batap, Td2fu, Td2pc, Td2alfap};
 
-use common::{Answer, Kelvin, KgPerM3, MPa, RGAS_WATER, over, settle};
+use common::{Kelvin, KgPerM3, MPa, RGAS_WATER, Refusal, over, settle};
 use extended::{raw_dpdtcv, raw_ec, raw_fi, raw_kt};
 use properties::{lost_or, raw_cp_w, raw_p, raw_v};
 use record::settle_p;
 
 // x, which is worked from p: 4 where p lies outside its range.
-fn with_tested_p(p: f64, x: f64) -> Answer
+fn with_tested_p(p: f64, x: f64) -> Result<f64, Refusal>
     ensures { paper result ≡ then (pressure_of (check p)) (λ _. check x) }
 {
-    match settle_p(MPa(p)) {
-        Answer::Value(_) => settle(x),
-        Answer::Refused(k) => Answer::Refused(k),
-    }
+    settle_p(MPa(p))?;
+    settle(x)
 }
 
 // OZ, the compressibility factor: v, then p.
-pub fn state_z(t: Kelvin, d: KgPerM3) -> Answer
+pub fn state_z(t: Kelvin, d: KgPerM3) -> Result<f64, Refusal>
     ensures { paper result ≡ Td2z (check t.0) (check d.0) }
 {
     let v = raw_v(t, d);
@@ -33,17 +32,16 @@ pub fn state_z(t: Kelvin, d: KgPerM3) -> Answer
 }
 
 // OKS, the isentropic exponent: w's half of the joint operation, then p.
-pub fn state_ks(t: Kelvin, d: KgPerM3) -> Answer
+pub fn state_ks(t: Kelvin, d: KgPerM3) -> Result<f64, Refusal>
     ensures { paper result ≡ Td2ks (check t.0) (check d.0) }
 {
-    let both = raw_cp_w(t, d);
-    let w = both.w;
+    let w = raw_cp_w(t, d).w;
     let p = raw_p(t, d);
     with_tested_p(lost_or(w, p), over(1.0e-6 * w * w * d.0, p))
 }
 
 // OBETAP, the isothermal stress coefficient, kg/m3: kt, then p.
-pub fn state_batap(t: Kelvin, d: KgPerM3) -> Answer
+pub fn state_batap(t: Kelvin, d: KgPerM3) -> Result<f64, Refusal>
     ensures { paper result ≡ Td2batap (check t.0) (check d.0) }
 {
     let kt = raw_kt(t, d);
@@ -52,7 +50,7 @@ pub fn state_batap(t: Kelvin, d: KgPerM3) -> Answer
 }
 
 // OFU, the fugacity, MPa: fi, then p.
-pub fn state_fu(t: Kelvin, d: KgPerM3) -> Answer
+pub fn state_fu(t: Kelvin, d: KgPerM3) -> Result<f64, Refusal>
     ensures { paper result ≡ Td2fu (check t.0) (check d.0) }
 {
     let fi = raw_fi(t, d);
@@ -61,7 +59,7 @@ pub fn state_fu(t: Kelvin, d: KgPerM3) -> Answer
 }
 
 // OPC, the isochoric pressure coefficient, 1/K: p first.
-pub fn state_pc(t: Kelvin, d: KgPerM3) -> Answer
+pub fn state_pc(t: Kelvin, d: KgPerM3) -> Result<f64, Refusal>
     ensures { paper result ≡ Td2pc (check t.0) (check d.0) }
 {
     let p = raw_p(t, d);
@@ -69,7 +67,7 @@ pub fn state_pc(t: Kelvin, d: KgPerM3) -> Answer
 }
 
 // OALFAP, the relative pressure coefficient, 1/K: p first.
-pub fn state_alfap(t: Kelvin, d: KgPerM3) -> Answer
+pub fn state_alfap(t: Kelvin, d: KgPerM3) -> Result<f64, Refusal>
     ensures { paper result ≡ Td2alfap (check t.0) (check d.0) }
 {
     let p = raw_p(t, d);

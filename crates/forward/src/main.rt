@@ -2,50 +2,43 @@
 // Standard error has what was not answered and why: bytes after the last whole row, a failed read, a failed write.
 #![tactic(auto)]
 
-use buffer::{byte_at, float_at};
-use common::least;
+use buffer::float_at;
 use exchange_entry::write_by;
-
-// The loop ends by this number of rows, which no run reaches.
-const MOST: u64 = 0xffff_ffff_ffff_ffff;
 
 // A row's room is at most this.
 const ROOM: usize = 40;
 
-fn fill(out: &mut [u8], byte: u8) {
-    let mut k = 0;
-    while k < out.len() {
-        out[k] = byte;
-        k += 1;
-    }
-}
-
 // The room of a row, filled and written to. Answers the refusal.
-fn fill_and_put(out: &mut [u8], row: &[u8]) -> u8 {
-    fill(out, byte_at(row, 2));
-    write_by(byte_at(row, 0), float_at(row, 8), float_at(row, 16), out)
+fn fill_and_put(out: &mut [u8], row: &[u8; 24]) -> u8 {
+    out.fill(row[2]);
+    write_by(row[0], float_at(row, 8), float_at(row, 16), out)
 }
 
-fn reply(row: &[u8]) -> [u8; 48] {
-    let mut out = [0u8; 48];
-    let end = 8 + least(byte_at(row, 1) as usize, ROOM);
-    let refusal = fill_and_put(&mut out[8..end], row);
-    out[0] = refusal;
+fn reply(row: &[u8; 24]) -> [u8; 48] {
+    let mut out = [0; 48];
+    let end = 8 + usize::from(row[1]).min(ROOM);
+    out[0] = fill_and_put(&mut out[8..end], row);
     out
 }
 
 // One turn: a row and its reply. Answers whether to go on.
+// Kept: a turn of its own in each program: the words that it says and what it does with a row are its own, and the loop is three lines.
 fn turn(rt: HostRuntime, done: u64) -> bool {
-    let mut row = [0u8; 24];
+    let mut row = [0; 24];
     let reading = stdio::read_until_full(rt, b"forward: standard input", &mut rt.stdin(), &mut row);
-    let have = reading.have;
-    let stop = reading.stop;
-    if !pages::go_on(rt, b"forward: rows ", stop, done, have as u64) {
+    if !pages::go_on(
+        rt,
+        b"forward: rows ",
+        reading.stop,
+        done,
+        reading.have as u64,
+    ) {
         return false;
     }
     stdio::send(rt, b"forward: writing", &mut rt.stdout(), &reply(&row))
 }
 
+// The loop ends by a number of rows that no run reaches.
 fn main(rt: HostRuntime) {
     if stdio::from_terminal(
         rt,
@@ -53,11 +46,9 @@ fn main(rt: HostRuntime) {
     ) {
         return;
     }
-    let mut done: u64 = 0;
-    while done < MOST {
+    for done in 0..u64::MAX {
         if !turn(rt, done) {
             return;
         }
-        done += 1;
     }
 }

@@ -1,6 +1,7 @@
 // φ and its derivatives: R7-97(2012), equation 28 and table 32, by the sums over table 30. Here, in order: table 30, its three kinds of sums,
 // φ and each derivative by itself, and those that the properties need together by one joint sum. Each gives its number, or a NaN where any step
 // is not finite; each divisor is tested before it could hide such a step.
+// Kept: δ and τ are two parameters of each call, as in the Rust and in table 32.
 ghost use Rattle.common.specs.Outcome.{check};
 ghost use Rattle.common.specs.Number.{Number};
 ghost use Rattle.helmholtz.specs.Hfe.{slope, share, phi, phi_delta, phi_deltadelta, phi_tau, phi_tautau, phi_deltatau, joint_phi, joint_tau, joint_delta, four_delta, four_deltadelta, four_deltatau, four_tautau};
@@ -8,9 +9,9 @@ ghost use Rattle.helmholtz.specs.Hfe.{slope, share, phi, phi_delta, phi_deltadel
 use algo::{Order, Share, gated};
 use common::{finite_or_nan, over};
 use inverses::raw_logarithm;
-use joint::{Pair, finished, four_sums, joint_sums};
+use joint::{Four, Pair, finished, four_sums, joint_sums};
 use powers::fill_powers;
-use slopes::slope_sum;
+use slopes::{Columns, slope_sum};
 
 // Table 30, row 1, and rows 2 to 40 by column.
 const N1: f64 = 0.10658070028513e1;
@@ -67,6 +68,14 @@ const NS: [f64; 39] = [
     -0.44923899061815e-4,
 ];
 
+const TABLE: Columns = Columns {
+    is: &IS,
+    js: &JS,
+    ns: &NS,
+};
+
+// Kept: `sum`, `pair` and `four` have the form of column_sums' `raw_sum`, `raw_pair` and `raw_four`: the reach of table 30's powers is constant here,
+// and of a caller's columns it is looked for there; a reach handed over would be two more arguments of each call and no fewer lines.
 // A sum by itself, its terms differentiated so often by δ and by τ. The exponents go from 0 to 11 and to 26, and 2 down where a term is differentiated twice.
 fn sum(a: Order, b: Order, delta: f64, tau: f64) -> f64
     ensures { Number (slope a b (check delta) (check tau)) result }
@@ -75,7 +84,7 @@ fn sum(a: Order, b: Order, delta: f64, tau: f64) -> f64
     let mut wj = [0.0; 129];
     fill_powers(delta, 11, 2, &mut wi);
     fill_powers(tau, 26, 2, &mut wj);
-    gated(delta, tau, slope_sum(a, b, &wi, &wj, &IS, &JS, &NS))
+    gated(delta, tau, slope_sum(a, b, &wi, &wj, TABLE))
 }
 
 // Two sums that share their terms.
@@ -86,7 +95,7 @@ fn pair(s: Share, t: Share, delta: f64, tau: f64) -> Pair
     let mut wj = [0.0; 129];
     fill_powers(delta, 11, 0, &mut wi);
     fill_powers(tau, 26, 0, &mut wj);
-    let p = joint_sums(Order::Zero, s, t, &wi, &wj, &IS, &JS, &NS);
+    let p = joint_sums(Order::Zero, s, t, &wi, &wj, TABLE);
     Pair {
         first: finished(s, delta, tau, p.first),
         second: finished(t, delta, tau, p.second),
@@ -94,23 +103,24 @@ fn pair(s: Share, t: Share, delta: f64, tau: f64) -> Pair
 }
 
 // Four sums that share their terms.
-fn four(delta: f64, tau: f64) -> Slopes
-    ensures { Number (share Share.I (check delta) (check tau)) result.delta × Number (share Share.Ii (check delta) (check tau)) result.deltadelta
-        × Number (share Share.Ij (check delta) (check tau)) result.deltatau × Number (share Share.Jj (check delta) (check tau)) result.tautau }
+fn four(delta: f64, tau: f64) -> Four
+    ensures { Number (share Share.I (check delta) (check tau)) result.i × Number (share Share.Ii (check delta) (check tau)) result.ii
+        × Number (share Share.Ij (check delta) (check tau)) result.ij × Number (share Share.Jj (check delta) (check tau)) result.jj }
 {
     let mut wi = [0.0; 129];
     let mut wj = [0.0; 129];
     fill_powers(delta, 11, 0, &mut wi);
     fill_powers(tau, 26, 0, &mut wj);
-    let p = four_sums(&wi, &wj, &IS, &JS, &NS);
-    Slopes {
-        delta: finished(Share::I, delta, tau, p.i),
-        deltadelta: finished(Share::Ii, delta, tau, p.ii),
-        deltatau: finished(Share::Ij, delta, tau, p.ij),
-        tautau: finished(Share::Jj, delta, tau, p.jj),
+    let p = four_sums(&wi, &wj, TABLE);
+    Four {
+        i: finished(Share::I, delta, tau, p.i),
+        ii: finished(Share::Ii, delta, tau, p.ii),
+        ij: finished(Share::Ij, delta, tau, p.ij),
+        jj: finished(Share::Jj, delta, tau, p.jj),
     }
 }
 
+// Kept: a function of one line for each derivative, by the Rust's names.
 pub fn phi_reg3(delta: f64, tau: f64) -> f64
     ensures { Number (phi (check delta) (check tau)) result }
 {
@@ -164,7 +174,7 @@ pub fn polys_0_j_powi_reg3(delta: f64, tau: f64) -> PhiTau
     }
 }
 
-// φ_δ and φ_τ by one sum.
+// φ_δ and φ_τ by one sum. Kept: of `PhiTau`'s shape, but its first number is another one, which its name says.
 #[derive(Clone, Copy)]
 pub struct DeltaTau {
     pub delta: f64,
@@ -196,9 +206,9 @@ pub fn polys_i_ii_ij_jj_powi_reg3(delta: f64, tau: f64) -> Slopes
 {
     let joint = four(delta, tau);
     Slopes {
-        delta: finite_or_nan(over(N1, delta) + joint.delta),
-        deltadelta: finite_or_nan(over(over(-N1, delta), delta) + joint.deltadelta),
-        deltatau: joint.deltatau,
-        tautau: joint.tautau,
+        delta: finite_or_nan(over(N1, delta) + joint.i),
+        deltadelta: finite_or_nan(over(over(-N1, delta), delta) + joint.ii),
+        deltatau: joint.ij,
+        tautau: joint.jj,
     }
 }

@@ -24,25 +24,9 @@ products r h = (
   mul-le-mul {n₁ = r % 2 ^ 27} {m₁ = r % 2 ^ 27} {n₂ = 2 ^ 27} {m₂ = 2 ^ 27} (omega arith) (omega arith),
 )
 
--- d * 2^52 against r*r + r and r*r - r
-pub at_least : (d s r h : ℕ) → h ≡ (s + r) / 2 ^ 52 → d ≤ h → d * 2 ^ 52 ≤ s + r
-at_least d s r h e l = omega arith
-
-pub above : (d s r h : ℕ) → h ≡ (s + (2 ^ 54 - r)) / 2 ^ 52 → r ≤ 2 ^ 53 → h < d + 4 → s < d * 2 ^ 52 + r
-above d s r h e k l = omega arith
-
 -- halving: the nearest root is from `low` to `up`
 pub record Between (d low up : ℕ) : Type 0 where
   pub order : low ≤ up
   pub most : up ≤ 2 ^ 53
   pub under : low * low < d * 2 ^ 52 + low
   pub over : d * 2 ^ 52 ≤ up * up + up
-
-pub start : (d : ℕ) → 2 ^ 52 ≤ d → d < 2 ^ 54 → Between d (2 ^ 52) (2 ^ 53)
-start d l h = record { order = omega arith; most = omega arith; under = omega arith; over = omega arith }
-
-pub raise : (d low up r h : ℕ) → Between d low up → r < up → h ≡ (r * r + r) / 2 ^ 52 → h < d → Between d (r + 1) up
-raise d low up r h b l e g = record { order = omega arith; most = b.most; under = omega arith; over = b.over }
-
-pub lower : (d low up r h : ℕ) → Between d low up → low ≤ r → r ≤ up → h ≡ (r * r + r) / 2 ^ 52 → d ≤ h → Between d low r
-lower d low up r h b l k e g = record { order = l; most = omega (arith, b.most); under = b.under; over = at_least d (r * r) r h e g }

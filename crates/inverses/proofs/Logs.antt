@@ -1,19 +1,19 @@
 -- The logarithm's rule is its steps with no check, checked once, at a number's 53 digits. In order: the checks, m, its places, and the rule. Assumes nothing.
-use mathlib.Core.Path.{◌≡◌, sym, ap, ◌∙◌, subst}
+use mathlib.Core.Path.{◌≡◌, refl, sym, ap, ◌∙◌, subst}
 use Prim.Native.Nat.{ℕ, suc, ◌+◌, ◌-◌, ◌*◌, ◌^◌, ◌≤◌, ◌<◌}
 use native.Mathlib.Nat.{le_trans, le_of_eq, le_of_lt, lt_of_lt_of_le, lt_of_not-le, mul-pos, mul_assoc, mul_right_comm, mul-le-mul_right, mul-lt-mul_of_pos_right, le_of_mul-le-mul_right, lt_of_mul-lt-mul_right, pow-succ'}
 use native.Mathlib.Omega.{arith}
-use mathlib.Core.Bool.{Bool, true, false, cond}
+use mathlib.Core.Bool.{Bool, true, false, ◌||◌, cond}
 use native.Mathlib.Decide.{dec_le}
 use lib.Dec.{T, ltb}
 use borrow.Author.Tests.{lt-ltb, le-ltb}
-use lib.IntN.{ℤ}
+use lib.IntN.{ℤ, pos}
 use lib.Pow.{pow_pos, pow-add, pow_mono}
-use lib.Ieee.{Float, nan, inf, fin, binary64, up, down, minus, size, round, add, sub, mul, div, sum, of_int, of_bits}
+use lib.Ieee.{Float, nan, inf, fin, binary64, up, down, minus, size, round, add, sub, mul, div, sum, eq, lt, le, of_int, of_bits}
 use lib.Ieee.Bits.{of_bits-fits}
 use lib.Ieee.Fits.{round-fits, down_pos}
 use lib.Ieee.Exact.{HasValue, round_exact}
-use Rattle.common.specs.Outcome.{finite, check}
+use Rattle.common.specs.Outcome.{refused, finite, check}
 use Rattle.inverses.specs.Units.{in_units, positive}
 use Rattle.rules.specs.Exp.{float, L}
 use Rattle.inverses.specs.Log.{odds_from25, ln_steps, places, ln_of, logarithm_rule}
@@ -22,7 +22,7 @@ use Rattle.common.proofs.Formulas.{raw_div, raw_first, raw_fold, raw_scale, ◌+
 use Rattle.rules.proofs.Fields.{same, read_suc}
 use Rattle.inverses.proofs.Units.{PartsOf}
 use Rattle.inverses.proofs.Whole.{size_is}
-use Rattle.inverses.proofs.Signs.{above}
+use Rattle.inverses.proofs.Signs.{is_zero_lem, is_negative, above}
 use Rattle.rules.proofs.Rounds.{small_finite, rescale}
 
 -- ---- the checks come to one at the end: the proof has the shape of the steps
@@ -124,3 +124,11 @@ module _ (x d e : ℕ) (p : PartsOf x d e) where
 pub ln_of_lem : (x : Float) → T (positive x) → logarithm_rule x ≡ ln_of (in_units x)
 unfolding logarithm_rule
 ln_of_lem x t = let z = above x t in rw z.2
+
+pub refused_below : (x : Float) → finite x ≡ true → le x (fin false 0 (pos 0)) ≡ true → logarithm_rule x ≡ refused 5
+unfolding logarithm_rule le
+refused_below x f = go (lt x (fin false 0 (pos 0))) (eq x (fin false 0 (pos 0))) (λ h. let z = is_negative x f h in rw z.2) (λ h. let z = is_zero_lem x f h in rw z.2)
+  where
+    go : {A : Type 0} (a b : Bool) → (a ≡ true → A) → (b ≡ true → A) → a || b ≡ true → A
+    go true b k l h = k refl
+    go false b k l h = l h

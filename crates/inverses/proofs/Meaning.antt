@@ -16,11 +16,11 @@ use lib.Ieee.Bits.{of_bits-to_bits}
 use lib.Ieee.Fits.{and_l, and_r}
 use lib.Ieee.Exact.{HasValue, units_val}
 use Rattle.inverses.specs.Units.{in_units, positive}
-use Rattle.inverses.specs.Root.{whole_root, nearest_root, from_zero, NearestRoot}
+use Rattle.inverses.specs.Root.{whole_root, nearest_root, from_zero, NearestRoot, Near}
 use Rattle.inverses.specs.Log.{places}
 use Rattle.rules.proofs.Fields.{bits_of}
 use Rattle.inverses.proofs.Units.{PartsOf, fits_units, small, units_are, parts_0, parts_suc}
-use Rattle.inverses.proofs.Whole.{IsRoot, Near, Half, whole_root_lem, half_even, half_odd, at_half, root_digits, root_is}
+use Rattle.inverses.proofs.Whole.{IsRoot, Half, whole_root_lem, half_even, half_odd, at_half, root_digits, root_is}
 
 -- ---- a nearest whole root exists
 pub near_exists : (a : ℕ) → 0 < a → (r : ℕ) × Near a r

@@ -7,7 +7,7 @@ use native.Mathlib.Omega.{arith}
 use mathlib.Core.Bool.{Bool, true, false, ◌&&◌, ◌||◌, beq}
 use lib.Dec.{T, eqb, ltb, eqb→eq, ltb→lt, lt→ltb}
 use lib.IntN.{ℤ, pos}
-use lib.Ieee.{Float, nan, inf, fin, up, down, eq, lt}
+use lib.Ieee.{Float, nan, inf, fin, up, down, eq, lt, le}
 use lib.Ieee.Fits.{up_pos, and_l}
 use Rattle.common.specs.Outcome.{finite}
 use Rattle.inverses.specs.Units.{positive}
@@ -16,7 +16,7 @@ use Rattle.common.proofs.Laws.{never}
 abbrev zero_f : Float
 zero_f = fin false 0 (pos 0)
 
-to_T : {b : Bool} → b ≡ true → T b
+pub to_T : {b : Bool} → b ≡ true → T b
 to_T e = subst T (sym e) tt
 
 size_pos : (m : ℕ) (e : ℤ) → 0 < suc m * up e * 1
@@ -58,6 +58,15 @@ is_positive (fin s zero e) f g h = clash (eq (fin s zero e) zero_f) (level_zero 
 is_positive (fin true (suc m) e) f g h =
     clash (ltb 0 (suc m * up e * 1 + 0 * down e)) (lt→ltb 0 (suc m * up e * 1 + 0 * down e) (lt_of_lt_of_le (size_pos m e) (le-add_right (suc m * up e * 1) (0 * down e)))) h
 is_positive (fin false (suc m) e) f g h = tt
+
+-- the same by one test, x <= 0.0
+pub is_above : (x : Float) → finite x ≡ true → le x zero_f ≡ false → T (positive x)
+unfolding le
+is_above x f = go (lt x zero_f) (eq x zero_f) (is_positive x f)
+  where
+    go : {A : Type 0} (a b : Bool) → (b ≡ false → a ≡ false → A) → a || b ≡ false → A
+    go true b k h = never h
+    go false b k h = k h refl
 
 pub above : (x : Float) → T (positive x) → (m : ℕ) × (e : ℤ) × (x ≡ fin false (suc m) e)
 above nan t = absurd t

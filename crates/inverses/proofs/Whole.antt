@@ -9,7 +9,7 @@ use lib.Pow.{pow_pos, pow_mono, pow-add}
 use lib.Ieee.{Float, binary64, size, nearest, units}
 use lib.Ieee.Digits.{size-lt, size-le}
 use Rattle.rules.proofs.Rounds.{Cmp, cmp}
-use Rattle.inverses.specs.Root.{longer, whole_root, nearest_root}
+use Rattle.inverses.specs.Root.{longer, whole_root, nearest_root, Near}
 
 -- ---- the whole part of a root
 
@@ -42,9 +42,7 @@ size_is r j l h =
     let b : j < size r = lt_of_not-le (λ (g : size r ≤ j). not-le_of_lt (lt_of_lt_of_le (size-lt r) (pow_mono g)) l) in
     omega arith
 
--- ---- the nearest whole number to the root of a: above the root of a less a half, and at most that more
-abbrev pub Near : ℕ → ℕ → Type 0
-Near a r = (r * r < a + r) × (a ≤ r * r + r)
+-- ---- the nearest whole number to the root of a
 
 apart : (a r s : ℕ) → Near a r → Near a s → suc r ≤ s → ⊥
 apart a r s g h l =

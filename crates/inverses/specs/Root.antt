@@ -1,6 +1,6 @@
 -- To believe: the root rule, the f64 nearest the exact root, judged by comparing squares of whole numbers, and below it what that means
 -- (proofs/Meaning has that it does). Assumes nothing: these are definitions.
-use Prim.Native.Nat.{ℕ, zero, suc, ◌+◌, ◌-◌, ◌*◌, ◌/◌, ◌^◌, ◌<◌, compare}
+use Prim.Native.Nat.{ℕ, zero, suc, ◌+◌, ◌-◌, ◌*◌, ◌/◌, ◌^◌, ◌<◌, ◌≤◌, compare}
 use Rattle.std.specs.Prelude.{Bool, true, false, cond, T, leb, Float}
 use Rattle.std.specs.Float.{nan, inf, fin, binary64}
 use Rattle.std.specs.Float.Ieee.{size, nearest, units, fits}
@@ -54,3 +54,7 @@ NearestRoot x r =
     (y : Float) → T (fits binary64 y) → T (from_zero y)
     → (in_units r < in_units y → 4 * (x * 2 ^ 1074) < (in_units r + in_units y) * (in_units r + in_units y))
     × (in_units y < in_units r → (in_units r + in_units y) * (in_units r + in_units y) < 4 * (x * 2 ^ 1074))
+
+-- ---- Helps proofs only: r is the nearest whole number to the root of a, which is above r less a half, and at most r and a half
+abbrev pub Near : ℕ → ℕ → Type 0
+Near a r = (r * r < a + r) × (a ≤ r * r + r)

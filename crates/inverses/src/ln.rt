@@ -8,7 +8,24 @@ ghost use Rattle.inverses.specs.Log.{logarithm_rule};
 ghost use Rattle.inverses.specs.RawLog.{raw_ln};
 
 use crate::parts::unpack;
-use common::{Answer, Refusal, is_finite, or_nan, settle};
+use common::{Refusal, is_finite, or_nan, settle};
+
+// 1/25, 1/23, .. 1.
+const INVERSES: [f64; 13] = [
+    0.04,
+    0.043478260869565216,
+    0.047619047619047616,
+    0.05263157894736842,
+    0.058823529411764705,
+    0.06666666666666667,
+    0.07692307692307693,
+    0.09090909090909091,
+    0.1111111111111111,
+    0.14285714285714285,
+    0.2,
+    0.3333333333333333,
+    1.0,
+];
 
 // ln (m * 2^e), the steps with no check.
 fn ln_steps(m: f64, e: f64) -> f64
@@ -16,21 +33,11 @@ fn ln_steps(m: f64, e: f64) -> f64
 {
     let z = (m - 1.0) / (m + 1.0);
     let y = z * z;
-    let q27: f64 = 0.037037037037037035;
-    let q25 = q27 * y + 0.04;
-    let q23 = q25 * y + 0.043478260869565216;
-    let q21 = q23 * y + 0.047619047619047616;
-    let q19 = q21 * y + 0.05263157894736842;
-    let q17 = q19 * y + 0.058823529411764705;
-    let q15 = q17 * y + 0.06666666666666667;
-    let q13 = q15 * y + 0.07692307692307693;
-    let q11 = q13 * y + 0.09090909090909091;
-    let q9 = q11 * y + 0.1111111111111111;
-    let q7 = q9 * y + 0.14285714285714285;
-    let q5 = q7 * y + 0.2;
-    let q3 = q5 * y + 0.3333333333333333;
-    let q1 = q3 * y + 1.0;
-    e * 0.6931471805599453 + 2.0 * z * q1
+    let mut q = 0.037037037037037035;
+    for c in INVERSES {
+        q = q * y + c;
+    }
+    e * 0.6931471805599453 + 2.0 * z * q
 }
 
 // k - 1074
@@ -41,23 +48,22 @@ fn exponent(k: u64) -> f64
     (k as i64 - 1074) as f64
 }
 
-pub fn logarithm(x: f64) -> Answer
+// The 53 digits of 1.5.
+const ONE_AND_HALF: u64 = 0x18_0000_0000_0000;
+
+pub fn logarithm(x: f64) -> Result<f64, Refusal>
     ensures { paper result ≡ logarithm_rule x }
 {
-    if is_finite(x) {
-        if x == 0.0 {
-            Answer::Refused(Refusal::Step)
-        } else if x < 0.0 {
-            Answer::Refused(Refusal::Step)
-        } else {
-            let p = unpack(x);
-            let up: u64 = if p.d < 0x18_0000_0000_0000 { 0 } else { 1 };
-            let m = f64::from_bits(0x3fe0_0000_0000_0000 + p.d - up * 0x10_0000_0000_0000);
-            settle(ln_steps(m, exponent(p.e + up)))
-        }
-    } else {
-        Answer::Refused(Refusal::NotFinite)
+    if !is_finite(x) {
+        return Err(Refusal::NotFinite);
     }
+    if x <= 0.0 {
+        return Err(Refusal::Step);
+    }
+    let p = unpack(x);
+    let up: u64 = if p.d < ONE_AND_HALF { 0 } else { 1 };
+    let m = f64::from_bits(0x3fe0_0000_0000_0000 + p.d - up * 0x10_0000_0000_0000);
+    settle(ln_steps(m, exponent(p.e + up)))
 }
 
 // For the layers above, which test once: a NaN where the rule refuses.

@@ -13,10 +13,10 @@ pub fn unpack(x: f64) -> Parts
     requires { T (positive x) }
     ensures { (2 ^ 52 ≤ result.d) × (result.d < 2 ^ 53) × (result.e < 2098) × (result.d * 2 ^ result.e ≡ in_units x * 2 ^ 52) }
 {
-    let b = f64::to_bits(x);
+    let b = x.to_bits();
     let field = b / 0x10_0000_0000_0000;
     if field == 0 {
-        let z = u64::leading_zeros(b) - 11;
+        let z = b.leading_zeros() - 11;
         Parts {
             d: b << z,
             e: 52 - z as u64,

@@ -4,10 +4,10 @@ ghost use Rattle.std.specs.Prelude.{◌≡◌, ◌+◌, ◌*◌, ◌/◌, ◌^�
 ghost use Rattle.common.specs.Outcome.{or_nan};
 ghost use Rattle.common.specs.Answer.{paper};
 ghost use Rattle.inverses.specs.Units.{in_units, positive};
-ghost use Rattle.inverses.specs.Root.{nearest_root, root_rule};
+ghost use Rattle.inverses.specs.Root.{Near, nearest_root, root_rule};
 
 use crate::parts::unpack;
-use common::{Answer, Refusal, is_finite, or_nan};
+use common::{Refusal, is_finite, or_nan};
 
 // The whole part of (r*r + t) / 2^52, with r = a * 2^27 + b.
 fn high(r: u64, t: u64) -> u64
@@ -19,70 +19,73 @@ fn high(r: u64, t: u64) -> u64
     a * a * 4 + (a * b + (b * b + t) / 0x1000_0000) / 0x100_0000
 }
 
-// Whether r is the whole number nearest the root of d * 2^52: whether d * 2^52 is at most r*r + r and above r*r - r. The latter can be below 0, so
-// that 2^54, which is 4 * 2^52, goes to both sides.
-fn is_near(d: u64, r: u64) -> bool
-    requires { (d < 2 ^ 54) × (r ≤ 2 ^ 53) }
-    ensures { result ≡ true → (r * r < d * 2 ^ 52 + r) × (d * 2 ^ 52 ≤ r * r + r) }
-{
-    if high(r, r) < d {
-        false
-    } else {
-        high(r, 0x40_0000_0000_0000 - r) < d + 4
-    }
+// The leading digits of the number whose root is taken, 53 of them, or 54 where the places after them would be odd.
+#[derive(Clone, Copy)]
+struct Digits {
+    d: u64,
+    ghost leading: { (2 ^ 52 ≤ d) × (d < 2 ^ 54) },
 }
 
-// The whole number nearest the root of d * 2^52, found by halving.
-fn by_halves(d: u64) -> u64
-    requires { (2 ^ 52 ≤ d) × (d < 2 ^ 54) }
-    ensures { (result * result < d * 2 ^ 52 + result) × (d * 2 ^ 52 ≤ result * result + result) }
-{
-    let mut low: u64 = 0x10_0000_0000_0000;
-    let mut up: u64 = 0x20_0000_0000_0000;
-    while low < up {
-        let r = (low + up) / 2;
-        if high(r, r) < d {
-            low = r + 1;
+impl Digits {
+    // Whether r is the whole number nearest the root of d * 2^52: whether d * 2^52 is at most r*r + r and above r*r - r. The latter can be below 0, so
+    // that 2^54, which is 4 * 2^52, goes to both sides.
+    fn is_near(self, r: u64) -> bool
+        requires { r ≤ 2 ^ 53 }
+        ensures { result ≡ true → Near (self.d * 2 ^ 52) r }
+    {
+        self.d <= high(r, r) && high(r, 0x40_0000_0000_0000 - r) < self.d + 4
+    }
+
+    // The whole number nearest the root of d * 2^52, found by halving.
+    fn by_halves(self) -> u64
+        ensures { Near (self.d * 2 ^ 52) result }
+    {
+        // Kept: a while, since an interval is halved and no index counted.
+        let mut low: u64 = 0x10_0000_0000_0000;
+        let mut up: u64 = 0x20_0000_0000_0000;
+        while low < up {
+            let r = (low + up) / 2;
+            if high(r, r) < self.d {
+                low = r + 1;
+            } else {
+                up = r;
+            }
+        }
+        low
+    }
+
+    // A first guess at the root of d * 2^52, by three of Newton's steps from a parabola. Nothing is promised of it but its digits.
+    fn proposed(self) -> u64
+        ensures { (2 ^ 52 ≤ result) × (result < 2 ^ 53) }
+    {
+        let f = ((self.d / 2) as f64) * 0.0000000000000004440892098500626;
+        let mut s = (f * -0.0348 + 0.5022) * f + 0.543;
+        for _ in 0..3 {
+            s = (s + f / s) * 0.5;
+        }
+        if s < 1.0 {
+            0x10_0000_0000_0000
+        } else if s < 2.0 {
+            s.to_bits() % 0x10_0000_0000_0000 + 0x10_0000_0000_0000
         } else {
-            up = r;
+            0x1f_ffff_ffff_ffff
         }
     }
-    low
-}
 
-// A first guess at the root of d * 2^52, by Newton's steps from a parabola. Nothing is promised of it but its digits.
-fn proposed(d: u64) -> u64
-    requires { d < 2 ^ 54 }
-    ensures { (2 ^ 52 ≤ result) × (result < 2 ^ 53) }
-{
-    let f = ((d / 2) as f64) * 0.0000000000000004440892098500626;
-    let s0 = (f * -0.0348 + 0.5022) * f + 0.543;
-    let s1 = (s0 + f / s0) * 0.5;
-    let s2 = (s1 + f / s1) * 0.5;
-    let s = (s2 + f / s2) * 0.5;
-    if s < 1.0 {
-        0x10_0000_0000_0000
-    } else if s < 2.0 {
-        f64::to_bits(s) % 0x10_0000_0000_0000 + 0x10_0000_0000_0000
-    } else {
-        0x1f_ffff_ffff_ffff
-    }
-}
-
-// The whole number nearest the root of d * 2^52: the guess or a neighbour of it, if one passes the test, and else by halving.
-fn near_root(d: u64) -> u64
-    requires { (2 ^ 52 ≤ d) × (d < 2 ^ 54) }
-    ensures { (result * result < d * 2 ^ 52 + result) × (d * 2 ^ 52 ≤ result * result + result) }
-{
-    let r = proposed(d);
-    if is_near(d, r) {
-        r
-    } else if is_near(d, r + 1) {
-        r + 1
-    } else if is_near(d, r - 1) {
-        r - 1
-    } else {
-        by_halves(d)
+    // The whole number nearest the root of d * 2^52: the guess or a neighbour of it, if one passes the test, and else by halving.
+    fn near_root(self) -> u64
+        ensures { Near (self.d * 2 ^ 52) result }
+    {
+        let r = self.proposed();
+        if self.is_near(r) {
+            r
+        } else if self.is_near(r + 1) {
+            r + 1
+        } else if self.is_near(r - 1) {
+            r - 1
+        } else {
+            self.by_halves()
+        }
     }
 }
 
@@ -93,23 +96,22 @@ fn positive_root(x: f64) -> f64
     let p = unpack(x);
     let d = if p.e % 2 == 0 { p.d } else { p.d * 2 };
     let k = (p.e + 970) / 2;
-    f64::from_bits(k * 0x10_0000_0000_0000 + near_root(d))
+    f64::from_bits(k * 0x10_0000_0000_0000 + Digits { d }.near_root())
 }
 
-pub fn root(x: f64) -> Answer
+pub fn root(x: f64) -> Result<f64, Refusal>
     ensures { paper result ≡ root_rule x }
 {
-    if is_finite(x) {
-        if x == 0.0 {
-            Answer::Value(x)
-        } else if x < 0.0 {
-            Answer::Refused(Refusal::Step)
-        } else {
-            Answer::Value(positive_root(x))
-        }
-    } else {
-        Answer::Refused(Refusal::NotFinite)
+    if !is_finite(x) {
+        return Err(Refusal::NotFinite);
     }
+    if x == 0.0 {
+        return Ok(x);
+    }
+    if x < 0.0 {
+        return Err(Refusal::Step);
+    }
+    Ok(positive_root(x))
 }
 
 // For the layers above, which test once: a NaN where the rule refuses.

@@ -6,12 +6,12 @@ ghost use Rattle.std.specs.Prelude.{◌≡◌, pos, ◌-ℤ◌};
 ghost use Rattle.std.specs.Float.{binary64};
 ghost use Rattle.std.specs.Float.Ieee.{of_int};
 ghost use Rattle.common.specs.Outcome.{or_nan};
-ghost use Rattle.algo.specs.Table.{rows_of};
 ghost use Rattle.algo.specs.Raw.{raw_weigh, raw_divided, SharesSummed, gate};
+ghost use Rattle.slopes.specs.Rows.{rows};
 
 use algo::{Order, Share, gated};
-use common::{least, over};
-use slopes::{factor, fallen};
+use common::over;
+use slopes::{Columns, factor, fallen};
 
 // Two sums of one item, in the order of the call's name.
 #[derive(Clone, Copy)]
@@ -37,6 +37,7 @@ fn one_less(k: i32) -> f64
 }
 
 // What the item x of a row adds to a sum.
+// Kept: this and `divide` match over the closed kind `Share`, by which the definitions `raw_weigh` and `raw_divided` choose too (the reason stands at it).
 fn weigh(s: Share, i: i32, j: i32, x: f64) -> f64
     ensures { result ≡ raw_weigh s i j x }
 {
@@ -57,8 +58,7 @@ fn divide(s: Share, vi: f64, vj: f64, x: f64) -> f64
 {
     match s {
         Share::Whole => x,
-        Share::I => over(x, vi),
-        Share::IAgain => over(x, vi),
+        Share::I | Share::IAgain => over(x, vi),
         Share::J => over(x, vj),
         Share::Ii => over(x, vi * vi),
         Share::Ij => over(x, vi * vj),
@@ -80,50 +80,38 @@ pub fn joint_sums(
     t: Share,
     wi: &[f64; 129],
     wj: &[f64; 129],
-    is: &[i32],
-    js: &[i32],
-    ns: &[f64],
+    table: Columns,
 ) -> Pair
-    ensures { SharesSummed a s wi.now wj.now (rows_of is.now js.now ns.now) result.first
-        × SharesSummed a t wi.now wj.now (rows_of is.now js.now ns.now) result.second }
+    ensures { SharesSummed a s wi.now wj.now (rows table.entry) result.first
+        × SharesSummed a t wi.now wj.now (rows table.entry) result.second }
 {
-    let n = least(least(is.len(), js.len()), ns.len());
     let mut first = 0.0;
     let mut second = 0.0;
-    let mut k = 0;
-    while k < n {
-        let i = is[k];
-        let j = js[k];
-        let item = factor(Order::Zero, wj, j, factor(a, wi, i, ns[k]));
+    for ((&i, &j), &n) in table.is.iter().zip(table.js).zip(table.ns) {
+        let item = factor(Order::Zero, wj, j, factor(a, wi, i, n));
         first += weigh(s, i, j, item);
         second += weigh(t, i, j, item);
-        k += 1;
     }
     Pair { first, second }
 }
 
 // Four sums of one item: by vi, twice by vi, by both, and twice by vj.
-pub fn four_sums(wi: &[f64; 129], wj: &[f64; 129], is: &[i32], js: &[i32], ns: &[f64]) -> Four
-    ensures { SharesSummed Order.Zero Share.I wi.now wj.now (rows_of is.now js.now ns.now) result.i
-        × SharesSummed Order.Zero Share.Ii wi.now wj.now (rows_of is.now js.now ns.now) result.ii
-        × SharesSummed Order.Zero Share.Ij wi.now wj.now (rows_of is.now js.now ns.now) result.ij
-        × SharesSummed Order.Zero Share.Jj wi.now wj.now (rows_of is.now js.now ns.now) result.jj }
+pub fn four_sums(wi: &[f64; 129], wj: &[f64; 129], table: Columns) -> Four
+    ensures { SharesSummed Order.Zero Share.I wi.now wj.now (rows table.entry) result.i
+        × SharesSummed Order.Zero Share.Ii wi.now wj.now (rows table.entry) result.ii
+        × SharesSummed Order.Zero Share.Ij wi.now wj.now (rows table.entry) result.ij
+        × SharesSummed Order.Zero Share.Jj wi.now wj.now (rows table.entry) result.jj }
 {
-    let n = least(least(is.len(), js.len()), ns.len());
     let mut by_i = 0.0;
     let mut by_ii = 0.0;
     let mut by_ij = 0.0;
     let mut by_jj = 0.0;
-    let mut k = 0;
-    while k < n {
-        let i = is[k];
-        let j = js[k];
-        let item = factor(Order::Zero, wj, j, factor(Order::Zero, wi, i, ns[k]));
+    for ((&i, &j), &n) in table.is.iter().zip(table.js).zip(table.ns) {
+        let item = factor(Order::Zero, wj, j, factor(Order::Zero, wi, i, n));
         by_i += weigh(Share::I, i, j, item);
         by_ii += weigh(Share::Ii, i, j, item);
         by_ij += weigh(Share::Ij, i, j, item);
         by_jj += weigh(Share::Jj, i, j, item);
-        k += 1;
     }
     Four {
         i: by_i,

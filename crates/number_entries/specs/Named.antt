@@ -1,5 +1,7 @@
 -- To believe: what a whole number names.
-use Rattle.std.specs.Prelude.{cond, ℕ, ◌^◌, List, ltb, ℤ, pos, negsuc, length, get_or}
+use Rattle.std.specs.Prelude.{cond, ◌-◌, List, ltb, ℤ, pos, negsuc, Option, None, Some, slice_get}
+use Rattle.subregion.specs.declared.Letter.{Letter}
+use Rattle.subregion.specs.Letter.{alphabet}
 use Rattle.reply.specs.declared.Reply.{Reply}
 use Rattle.reply.specs.Shape.{refused_by}
 
@@ -7,11 +9,17 @@ use Rattle.reply.specs.Shape.{refused_by}
 abbrev pub unknown : Reply
 unknown = refused_by 255
 
--- the place that a number names in a list; a negative one is past the end of every list
-abbrev pub place_of : ℤ → ℕ
-place_of (pos k) = k
-place_of (negsuc k) = 2 ^ 32
+-- the entry of a list at the place that a number names; a negative one names none
+abbrev pub entry_at : {A : Type 0} → List A → ℤ → Option A
+entry_at xs (pos k) = slice_get xs k
+entry_at xs (negsuc k) = None
 
--- what f answers for the entry of a list at a place (d stands where there is none, and is never asked)
-abbrev pub named : {A : Type 0} → List A → A → ℕ → (A → Reply) → Reply
-named xs d k f = cond (ltb k (length xs)) (f (get_or xs k d)) unknown
+-- the letter whose ASCII a number is
+abbrev pub letter_at : ℤ → Option Letter
+letter_at (pos k) = cond (ltb k 97) None (slice_get alphabet (k - 97))
+letter_at (negsuc k) = None
+
+-- what f answers for what a number names
+abbrev pub named : {A : Type 0} → Option A → (A → Reply) → Reply
+named (Some x) f = f x
+named None f = unknown

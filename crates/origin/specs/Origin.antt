@@ -2,20 +2,12 @@
 use Rattle.common.specs.Formula.{◌⊖◌, size_of}
 use Rattle.std.specs.Prelude.{Bool, false, cond, Float}
 use Rattle.std.specs.Float.Ieee.{lt}
-use Rattle.common.specs.Outcome.{Outcome, value, refused, then}
-use Rattle.common.specs.Answer.{number_of}
+use Rattle.common.specs.Outcome.{Outcome, value, then}
 use Rattle.common.specs.Constant.{p_tol, t_tol, tc_water, pc_water}
 use Rattle.border.specs.Border.{region3_box}
 use Rattle.boundary.specs.Choice.{letter_at}
 use Rattle.record.specs.declared.Origin.{Origin}
 use Rattle.record.specs.declared.Origin.TheVariants.{Subregion, Critical}
-use Rattle.origin.specs.declared.OriginAnswer.{OriginAnswer}
-use Rattle.origin.specs.declared.OriginAnswer.TheVariants as origins
-
--- the paper's number and value for each case
-abbrev pub paper_origin : OriginAnswer → Outcome Origin
-paper_origin (origins.Value o) = value o
-paper_origin (origins.Refused k) = refused (number_of k)
 
 -- ---- the critical point
 

@@ -2,70 +2,54 @@
 #![tactic(auto)]
 
 ghost use Rattle.std.specs.Prelude.{◌≡◌};
-ghost use Rattle.std.specs.Float.Ieee.{lt};
-ghost use Rattle.common.specs.Formula.{size_of};
-ghost use Rattle.origin.specs.Origin.{paper_origin, lettered_at, origin_at, origin_rule};
+ghost use Rattle.common.specs.Answer.{paper};
+ghost use Rattle.origin.specs.Origin.{near, at_critical, lettered_at, origin_at, origin_rule};
 
 use border::check_region3;
 use boundary::letter_at;
-use common::{Kelvin, MPa, P_TOL, PC_WATER, Refusal, T_TOL, TC_WATER, Verdict, is_finite};
+use common::{Kelvin, MPa, P_TOL, PC_WATER, Refusal, T_TOL, TC_WATER, settle, size};
 use record::Origin;
-use subregion::LetterAnswer;
 
-// Where a (p,T) call takes its volume from.
-#[derive(Clone, Copy)]
-pub enum OriginAnswer {
-    Value(Origin),
-    Refused(Refusal),
+// Whether x is strictly within tol of centre. A distance that is lost is refused.
+fn near(x: f64, centre: f64, tol: f64) -> Result<bool, Refusal>
+    ensures { paper result ≡ near x centre tol }
+{
+    let distance = settle(x - centre)?;
+    Ok(size(distance) < tol)
 }
 
-// Whether a distance is strictly less than tol, whatever its sign.
-fn is_small(y: f64, tol: f64) -> bool
-    ensures { result ≡ lt (size_of y) tol }
+// Whether T is near the critical point's, and then p.
+fn at_critical(p: MPa, t: Kelvin) -> Result<bool, Refusal>
+    ensures { paper result ≡ at_critical p.0 t.0 }
 {
-    if y < 0.0 {
-        return -y < tol;
-    }
-    y < tol
+    Ok(near(t.0, TC_WATER, T_TOL)? && near(p.0, PC_WATER, P_TOL)?)
 }
 
 // The letter as an origin.
-fn lettered(p: MPa, t: Kelvin) -> OriginAnswer
-    ensures { paper_origin result ≡ lettered_at p.0 t.0 }
+fn lettered(p: MPa, t: Kelvin) -> Result<Origin, Refusal>
+    ensures { paper result ≡ lettered_at p.0 t.0 }
 {
-    match letter_at(p, t) {
-        LetterAnswer::Value(l) => OriginAnswer::Value(Origin::Subregion(l)),
-        LetterAnswer::Refused(k) => OriginAnswer::Refused(k),
-    }
+    let l = letter_at(p, t)?;
+    Ok(Origin::Subregion(l))
 }
 
 // The critical point, or the letter, at any p and t: no box is looked at, and a distance from the critical point that is lost is refused.
-pub fn origin_at(p: MPa, t: Kelvin) -> OriginAnswer
-    ensures { paper_origin result ≡ origin_at p.0 t.0 }
+#[tactic(auto, unfolding(crate::specs::Origin::origin_at))]
+pub fn origin_at(p: MPa, t: Kelvin) -> Result<Origin, Refusal>
+    ensures { paper result ≡ origin_at p.0 t.0 }
 {
-    let dt = t.0 - TC_WATER;
-    if is_finite(dt) {
-        if is_small(dt, T_TOL) {
-            let dp = p.0 - PC_WATER;
-            if is_finite(dp) {
-                if is_small(dp, P_TOL) {
-                    return OriginAnswer::Value(Origin::Critical);
-                }
-                return lettered(p, t);
-            }
-            return OriginAnswer::Refused(Refusal::Step);
-        }
-        return lettered(p, t);
+    if at_critical(p, t)? {
+        return Ok(Origin::Critical);
     }
-    OriginAnswer::Refused(Refusal::Step)
+    lettered(p, t)
 }
 
 // Where a (p,T) record and a row of the column run take their volume from: the box and the border with region 2, once, then the origin.
-pub fn origin_pT(p: MPa, t: Kelvin) -> OriginAnswer
-    ensures { paper_origin result ≡ origin_rule p.0 t.0 }
+// Kept: boundary's sub_region3_pT is these two steps for a letter; a function handed the second step would be no plainer.
+#[tactic(auto, unfolding(crate::specs::Origin::origin_rule))]
+pub fn origin_pT(p: MPa, t: Kelvin) -> Result<Origin, Refusal>
+    ensures { paper result ≡ origin_rule p.0 t.0 }
 {
-    match check_region3(p, t) {
-        Verdict::Accepted => origin_at(p, t),
-        Verdict::Refused(k) => OriginAnswer::Refused(k),
-    }
+    check_region3(p, t)?;
+    origin_at(p, t)
 }

@@ -10,10 +10,7 @@ use stdio::Stop;
 // Says how many rows were answered, and how many bytes are left after them.
 pub fn say_end(rt: HostRuntime, what: &[u8], done: u64, left: u64) {
     stdio::say(rt, what);
-    let _ = eprint!(rt; "{done}");
-    stdio::say(rt, b" left ");
-    let _ = eprint!(rt; "{left}");
-    stdio::say(rt, b"\n");
+    let _ = eprintln!(rt; "{done} left {left}");
 }
 
 // Whether there may be more after a reading. Bytes that are left after the last whole row are said, and so is a reading that failed.

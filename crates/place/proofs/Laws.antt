@@ -1,5 +1,5 @@
 -- The border's number, checked once, is the border: its last step is a sum. Assumes nothing.
-use mathlib.Core.Path.{◌≡◌, refl, ◌∙◌}
+use mathlib.Core.Path.{◌≡◌, refl, sym, ap, ◌∙◌}
 use lib.Ieee.{Float, binary64, add}
 use Rattle.common.specs.Outcome.{Outcome, value, refused, check, inside, or_nan}
 use Rattle.common.specs.Formula.{worked}
@@ -19,3 +19,7 @@ T2p_settled t = settled_from (add binary64) (or_nan n1) _ (five_mul (five_add (f
 pub p2T_settled : (p : Float) → check (or_nan (B23_p2T p)) ≡ B23_p2T p
 unfolding B23_p2T
 p2T_settled p = settled_from (add binary64) (or_nan n4) _ (five_inside root_rule (five_div (five_sub (five p) (five (or_nan n5))) (five (or_nan n3)))).is
+
+-- what the settled border answers is the border's step
+pub answered : {o q : Outcome Float} {r : Float} → check (or_nan o) ≡ o → r ≡ or_nan o → q ≡ check r → o ≡ q
+answered s e h = sym s ∙ ap check (sym e) ∙ sym h

@@ -5,24 +5,17 @@ use Rattle.common.specs.Outcome.{Outcome, value, refused, then}
 use Rattle.common.specs.Formula.{◌⊘◌}
 use Rattle.common.specs.Decimal.{whole}
 use Rattle.common.specs.Constant.{p_range_to, t_range_from, t_range_to, d_range_from, d_range_to}
-use Rattle.common.specs.Answer.{number_of}
 use Rattle.common.specs.Range.{within}
 use Rattle.border.specs.Border.{B23_T2p, B23_p2T}
 use Rattle.volume_at.specs.Volumes.{pT2v_at}
-use Rattle.secant.specs.Secant.{Proposal, proposal_rule}
+use Rattle.secant.specs.Secant.{proposal_rule}
+use Rattle.secant.specs.declared.Proposal.{Proposal}
 use Rattle.secant.specs.declared.Curve.{Curve}
 use Rattle.secant.specs.declared.Curve.TheVariants.{Isochore, Enthalpy, Entropy}
 use Rattle.checks.specs.Checks.{check_p_rule, check_h_rule, check_s_rule}
-use Rattle.place.specs.declared.DensitiesAnswer.{DensitiesAnswer}
-use Rattle.place.specs.declared.DensitiesAnswer.TheVariants as densities
-use Rattle.place.specs.declared.FoundAnswer.{FoundAnswer}
-use Rattle.place.specs.declared.FoundAnswer.TheVariants as found
+use Rattle.place.specs.declared.Starts.{Starts}
 
 -- ---- the start points
-
-pub record Starts : Type 0 where
-  pub first : Float
-  pub second : Float
 
 -- 1/v by the Rust's pT2v_reg3: with the critical point and the letter choice, and with no range test
 unfoldable pub density_at : Float → Float → Outcome Float
@@ -35,9 +28,12 @@ densities_at t =
     then (B23_T2p t) (λ p. then (density_at p t) (λ d1. then (density_at p_range_to t) (λ d2. value (record { first = d1; second = d2 }))))
 
 -- on an isochore: 623.15 K and the border with region 2 at the asked p
+abbrev pub temperatures_at : Float → Outcome Starts
+temperatures_at p = then (B23_p2T p) (λ t. value (record { first = t_range_from; second = t }))
+
 unfoldable pub starts_of : Curve → Outcome Starts
 unfolding densities_at
-starts_of (Isochore d p) = then (B23_p2T p.0) (λ t. value (record { first = t_range_from; second = t }))
+starts_of (Isochore d p) = temperatures_at p.0
 starts_of (Enthalpy t h) = densities_at t.0
 starts_of (Entropy t s) = densities_at t.0
 
@@ -64,14 +60,4 @@ accepted_at curve x = cond (in_range curve x) (check_on curve x) (refused 4)
 
 unfoldable pub found_on : Curve → Outcome Proposal
 unfolding proposed_for accepted_at
-found_on curve = then (proposed_for curve) (λ q. then (accepted_at curve q.x) (λ _. value q))
-
--- ---- what the answers say
-
-abbrev pub paper_densities : DensitiesAnswer → Outcome Starts
-paper_densities (densities.Value a b) = value (record { first = a.0; second = b.0 })
-paper_densities (densities.Refused k) = refused (number_of k)
-
-abbrev pub paper_found : FoundAnswer → Outcome Proposal
-paper_found (found.Value x n) = value (record { x = x; trials = n })
-paper_found (found.Refused k) = refused (number_of k)
+found_on curve = then (proposed_for curve) (λ q. then (accepted_at curve q.place) (λ _. value q))

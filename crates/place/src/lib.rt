@@ -1,75 +1,73 @@
 // From a curve, with what is asked of it, to the place that the check accepts: the start points (r3/region3_pair_ext.rs), the search, the proposal's range,
 // the check.
-#![tactic(auto)]
+#![tactic(auto, using(common::proofs::Calls::passed_on, common::proofs::Calls::went_in))]
 
 ghost use Rattle.std.specs.Prelude.{◌≡◌};
-ghost use Rattle.common.specs.Answer.{paper, paper_verdict};
-ghost use Rattle.secant.specs.Secant.{paper_proposal};
-ghost use Rattle.place.specs.AcceptedPlace.{paper_densities, paper_found, density_at, densities_at, in_range, check_on, accepted_at, proposed_for, found_on};
+ghost use Rattle.common.specs.Answer.{paper};
+ghost use Rattle.place.specs.AcceptedPlace.{density_at, densities_at, temperatures_at, in_range, check_on, accepted_at, proposed_for, found_on};
 
 use border::{raw_B23_T2p, raw_B23_p2T};
 use checks::{check_h, check_p, check_s};
-use common::{Answer, Kelvin, KgPerM3, MPa, P_TO, Refusal, T_FROM, Verdict, in_d, in_t, settle};
-use secant::{Curve, ProposalAnswer, rtsec_h, rtsec_p, rtsec_s};
+use common::{Kelvin, KgPerM3, MPa, P_RANGE, Refusal, T_RANGE, in_d, in_t, settle};
+use secant::{Curve, Proposal, rtsec_h, rtsec_p, rtsec_s};
 use volume_at::pT2v_at;
 
-// The densities between which a search on an isotherm starts.
-#[derive(Clone, Copy)]
-enum DensitiesAnswer {
-    Value(KgPerM3, KgPerM3),
-    Refused(Refusal),
-}
-
-// The T in K or d in kg/m3 that the check accepted, and how many trials the search made.
-#[derive(Clone, Copy)]
-pub enum FoundAnswer {
-    Value(f64, u32),
-    Refused(Refusal),
+// The places, in K or kg/m3 by the curve, between which a search starts.
+#[derive(Clone, Copy, Debug, PartialEq)]
+struct Starts {
+    first: f64,
+    second: f64,
 }
 
 // The density of the volume at a pressure, at any p and t.
-fn density_at(p: MPa, t: Kelvin) -> Answer
+#[tactic(auto, unfolding(crate::specs::AcceptedPlace::density_at, std::specs::Prelude::from_bits, common::specs::Decimal::whole))]
+fn density_at(p: MPa, t: Kelvin) -> Result<f64, Refusal>
     ensures { paper result ≡ density_at p.0 t.0 }
 {
-    match pT2v_at(p, t) {
-        Answer::Value(v) => settle(1.0 / v),
-        Answer::Refused(k) => Answer::Refused(k),
-    }
+    let v = pT2v_at(p, t)?;
+    settle(1.0 / v)
 }
 
 // On an isotherm: the densities at the border with region 2 and at 100 MPa.
-fn densities(t: Kelvin) -> DensitiesAnswer
-    ensures { paper_densities result ≡ densities_at t.0 }
+fn densities(t: Kelvin) -> Result<Starts, Refusal>
+    ensures { paper result ≡ densities_at t.0 }
 {
-    match settle(raw_B23_T2p(t)) {
-        Answer::Value(p) => match density_at(MPa(p), t) {
-            Answer::Value(d1) => match density_at(MPa(P_TO), t) {
-                Answer::Value(d2) => DensitiesAnswer::Value(KgPerM3(d1), KgPerM3(d2)),
-                Answer::Refused(k) => DensitiesAnswer::Refused(k),
-            },
-            Answer::Refused(k) => DensitiesAnswer::Refused(k),
-        },
-        Answer::Refused(k) => DensitiesAnswer::Refused(k),
-    }
+    let p = settle(raw_B23_T2p(t))?;
+    let first = density_at(MPa(p), t)?;
+    let second = density_at(MPa(P_RANGE.to), t)?;
+    Ok(Starts { first, second })
 }
 
-// The start points, then the search: on an isochore from 623.15 K and from the border with region 2 at the asked p.
-fn proposed(curve: Curve) -> ProposalAnswer
-    ensures { paper_proposal result ≡ proposed_for curve }
+// On an isochore: 623.15 K and the border with region 2 at the asked p.
+fn temperatures(p: MPa) -> Result<Starts, Refusal>
+    ensures { paper result ≡ temperatures_at p.0 }
+{
+    let second = settle(raw_B23_p2T(p))?;
+    Ok(Starts {
+        first: T_RANGE.from,
+        second,
+    })
+}
+
+// The start points, then the search.
+// Kept: here and below a match over the closed kind of curves (secant).
+#[tactic(auto, unfolding(crate::specs::AcceptedPlace::proposed_for, crate::specs::AcceptedPlace::starts_of))]
+fn proposed(curve: Curve) -> Result<Proposal, Refusal>
+    ensures { paper result ≡ proposed_for curve }
 {
     match curve {
-        Curve::Isochore(d, p) => match settle(raw_B23_p2T(p)) {
-            Answer::Value(t) => rtsec_p(d, p, Kelvin(T_FROM), Kelvin(t)),
-            Answer::Refused(k) => ProposalAnswer::Refused(k),
-        },
-        Curve::Enthalpy(t, h) => match densities(t) {
-            DensitiesAnswer::Value(d1, d2) => rtsec_h(t, h, d1, d2),
-            DensitiesAnswer::Refused(k) => ProposalAnswer::Refused(k),
-        },
-        Curve::Entropy(t, s) => match densities(t) {
-            DensitiesAnswer::Value(d1, d2) => rtsec_s(t, s, d1, d2),
-            DensitiesAnswer::Refused(k) => ProposalAnswer::Refused(k),
-        },
+        Curve::Isochore(d, p) => {
+            let s = temperatures(p)?;
+            rtsec_p(d, p, Kelvin(s.first), Kelvin(s.second))
+        }
+        Curve::Enthalpy(t, h) => {
+            let s = densities(t)?;
+            rtsec_h(t, h, KgPerM3(s.first), KgPerM3(s.second))
+        }
+        Curve::Entropy(t, asked) => {
+            let s = densities(t)?;
+            rtsec_s(t, asked, KgPerM3(s.first), KgPerM3(s.second))
+        }
     }
 }
 
@@ -79,14 +77,13 @@ fn in_range(curve: Curve, x: f64) -> bool
 {
     match curve {
         Curve::Isochore(_, _) => in_t(Kelvin(x)),
-        Curve::Enthalpy(_, _) => in_d(KgPerM3(x)),
-        Curve::Entropy(_, _) => in_d(KgPerM3(x)),
+        Curve::Enthalpy(_, _) | Curve::Entropy(_, _) => in_d(KgPerM3(x)),
     }
 }
 
 // The check at a place.
-fn checked(curve: Curve, x: f64) -> Verdict
-    ensures { paper_verdict result ≡ check_on curve x }
+fn checked(curve: Curve, x: f64) -> Result<(), Refusal>
+    ensures { paper result ≡ check_on curve x }
 {
     match curve {
         Curve::Isochore(d, p) => check_p(Kelvin(x), d, p),
@@ -96,24 +93,22 @@ fn checked(curve: Curve, x: f64) -> Verdict
 }
 
 // A proposal in its range, then accepted by the check.
-fn accept(curve: Curve, x: f64) -> Verdict
-    ensures { paper_verdict result ≡ accepted_at curve x }
+#[tactic(auto, unfolding(crate::specs::AcceptedPlace::accepted_at))]
+fn accept(curve: Curve, x: f64) -> Result<(), Refusal>
+    ensures { paper result ≡ accepted_at curve x }
 {
-    if in_range(curve, x) {
-        return checked(curve, x);
+    if !in_range(curve, x) {
+        return Err(Refusal::State);
     }
-    Verdict::Refused(Refusal::State)
+    checked(curve, x)
 }
 
-// The place on a curve at which its property is the asked one.
-pub fn found(curve: Curve) -> FoundAnswer
-    ensures { paper_found result ≡ found_on curve }
+// The place on a curve at which its property is the asked one, and how many trials the search made.
+#[tactic(auto, unfolding(crate::specs::AcceptedPlace::found_on))]
+pub fn found(curve: Curve) -> Result<Proposal, Refusal>
+    ensures { paper result ≡ found_on curve }
 {
-    match proposed(curve) {
-        ProposalAnswer::Value(x, trials) => match accept(curve, x) {
-            Verdict::Accepted => FoundAnswer::Value(x, trials),
-            Verdict::Refused(k) => FoundAnswer::Refused(k),
-        },
-        ProposalAnswer::Refused(k) => FoundAnswer::Refused(k),
-    }
+    let proposal = proposed(curve)?;
+    accept(curve, proposal.place)?;
+    Ok(proposal)
 }

@@ -1,30 +1,35 @@
--- What the test of the columns' lengths says of a rule over their rows. Assumes nothing.
-use mathlib.Core.Path.{◌≡◌, refl, sym}
-use mathlib.Core.Bool.{Bool, true, false, cond, ◌&&◌}
+-- A rule over the rows of columns, after the test of the columns' lengths: what a call answers that goes on from the test, or is turned away. Assumes nothing.
+use mathlib.Core.Path.{◌≡◌, refl, ◌∙◌, sym}
+use mathlib.Core.Bool.{Bool, true, false, cond}
 use mathlib.Core.List.{List}
 use lib.Dec.{eqb}
 use lib.IntN.{ℤ}
 use lib.ListN.{length}
 use lib.Ieee.{Float}
-use Rattle.common.specs.Outcome.{Outcome, refused}
-use Rattle.common.proofs.Laws.{never}
+use Rattle.std.specs.Prelude.{Result, IsErrAnd}
+use Rattle.common.specs.Outcome.{Outcome, value, refused, then}
+use Rattle.common.specs.Answer.{paper, number_of}
+use Rattle.common.specs.declared.Refusal.{Refusal}
+use Rattle.common.proofs.Calls.{went_in, passed_on}
 use Rattle.algo.specs.Table.{Row, rows_of}
-use Rattle.polynomial.specs.Columns.{by_columns}
+use Rattle.polynomial.specs.Columns.{by_columns, one_length}
+
+-- the test, of what the two comparisons say
+abbrev tested : Bool → Bool → Outcome Unit
+tested p q = cond p (cond q (value tt) (refused 7)) (refused 7)
 
 module _ {A : Type 0} where
-  both : (p q : Bool) (o : Outcome A) → (p && q) ≡ true → cond p (cond q o (refused 7)) (refused 7) ≡ o
-  both true true o h = refl
-  both true false o h = never (sym h)
-  both false q o h = never (sym h)
-
-  either : (p q : Bool) (o : Outcome A) → (p && q) ≡ false → cond p (cond q o (refused 7)) (refused 7) ≡ refused 7
-  either true true o h = never h
-  either true false o h = refl
-  either false q o h = refl
+  both : (p q : Bool) (o : Outcome A) → then (tested p q) (λ _. o) ≡ cond p (cond q o (refused 7)) (refused 7)
+  both true true o = refl
+  both true false o = refl
+  both false q o = refl
 
   module _ (f : List Row → Outcome A) (is js : List ℤ) (ns : List Float) where
-    pub taken_by : (eqb (length is) (length ns) && eqb (length js) (length ns)) ≡ true → by_columns f is js ns ≡ f (rows_of is js ns)
-    taken_by h = both (eqb (length is) (length ns)) (eqb (length js) (length ns)) (f (rows_of is js ns)) h
+    after_lengths : then (one_length is js ns) (λ _. f (rows_of is js ns)) ≡ by_columns f is js ns
+    after_lengths = both (eqb (length is) (length ns)) (eqb (length js) (length ns)) (f (rows_of is js ns))
 
-    pub refused_by_lem : (eqb (length is) (length ns) && eqb (length js) (length ns)) ≡ false → by_columns f is js ns ≡ refused 7
-    refused_by_lem h = either (eqb (length is) (length ns)) (eqb (length js) (length ns)) (f (rows_of is js ns)) h
+    pub of_one_length : {u : Unit} → value u ≡ one_length is js ns → f (rows_of is js ns) ≡ by_columns f is js ns
+    of_one_length e = sym (went_in (λ _. f (rows_of is js ns)) e) ∙ after_lengths
+
+    pub of_unequal : (r : Result A Refusal) (k : Refusal) → IsErrAnd r (λ e. e ≡ k) → refused (number_of k) ≡ one_length is js ns → paper r ≡ by_columns f is js ns
+    of_unequal r k h e = passed_on (λ _. f (rows_of is js ns)) r k h e ∙ after_lengths

@@ -1,8 +1,7 @@
--- To believe: a rule over a table that is lent by its columns, two and four sums of one item, and what their answers say.
+-- To believe: a rule over a table that is lent by its columns, and two and four sums of one item.
 -- Assumes nothing: these are definitions.
 use Rattle.std.specs.Prelude.{cond, List, eqb, ℤ, length, Float}
 use Rattle.common.specs.Outcome.{Outcome, value, refused, then}
-use Rattle.common.specs.Answer.{number_of}
 use Rattle.algo.specs.Table.{Row, rows_of, sum_rule}
 use Rattle.algo.specs.Joint.{share_rule}
 use Rattle.algo.specs.declared.Order.{Order}
@@ -11,14 +10,14 @@ use Rattle.algo.specs.declared.Share.{Share}
 use Rattle.algo.specs.declared.Share.TheVariants.{I, Ii, Ij, Jj}
 use Rattle.joint.specs.declared.Pair.{Pair}
 use Rattle.joint.specs.declared.Four.{Four}
-use Rattle.polynomial.specs.declared.PairAnswer.{PairAnswer}
-use Rattle.polynomial.specs.declared.PairAnswer.TheVariants as pairs
-use Rattle.polynomial.specs.declared.FourAnswer.{FourAnswer}
-use Rattle.polynomial.specs.declared.FourAnswer.TheVariants as fours
 
 -- 7 for columns of unequal length
 abbrev pub by_columns : {A : Type 0} → (List Row → Outcome A) → List ℤ → List ℤ → List Float → Outcome A
 by_columns f is js ns = cond (eqb (length is) (length ns)) (cond (eqb (length js) (length ns)) (f (rows_of is js ns)) (refused 7)) (refused 7)
+
+-- the test of the lengths by itself
+abbrev pub one_length : List ℤ → List ℤ → List Float → Outcome Unit
+one_length = by_columns (λ _. value tt)
 
 unfoldable pub table_rule : (Float → Float → Row → Outcome Float) → Float → Float → List ℤ → List ℤ → List Float → Outcome Float
 table_rule t vi vj = by_columns (sum_rule t vi vj)
@@ -37,13 +36,3 @@ pair_table a s t vi vj = by_columns (λ rs. pair_of (share_rule a s vi vj rs) (s
 unfoldable pub four_table : Float → Float → List ℤ → List ℤ → List Float → Outcome Four
 four_table vi vj =
     by_columns (λ rs. four_of (share_rule Zero I vi vj rs) (share_rule Zero Ii vi vj rs) (share_rule Zero Ij vi vj rs) (share_rule Zero Jj vi vj rs))
-
--- ---- the paper's number and value of an answer
-
-abbrev pub paper_pair : PairAnswer → Outcome Pair
-paper_pair (pairs.Value p) = value p
-paper_pair (pairs.Refused k) = refused (number_of k)
-
-abbrev pub paper_four : FourAnswer → Outcome Four
-paper_four (fours.Value p) = value p
-paper_four (fours.Refused k) = refused (number_of k)

@@ -2,10 +2,12 @@
 -- number that is rounded again. Assumes nothing.
 use mathlib.Core.Path.{◌≡◌, refl, sym, ap, ◌∙◌, subst}
 use mathlib.Core.Bool.{Bool, true, false, ◌&&◌}
+use mathlib.Core.Logic.{◌⊎◌, inl, inr}
 use Prim.Native.Nat.{ℕ, ◌+◌, ◌*◌, ◌^◌, ◌≤◌, ◌<◌}
 use native.Mathlib.Nat.{le_trans, le_of_eq, lt_of_le_of_lt, mul-one, one-mul, mul-pos, mul_comm, mul_assoc, mul_right_comm, mul-mul-mul_comm, mul-le-mul_left, eq_of_mul-eq-mul_right}
+use native.Mathlib.Omega.{arith}
 use lib.Dec.{T, leb}
-use lib.IntN.{ℤ}
+use lib.IntN.{ℤ, negsuc}
 use lib.Pow.{pow-add, pow_pos}
 use lib.Ieee.{Float, nan, inf, fin, binary64, up, down, round, mul, le, unlike}
 use lib.Ieee.Fits.{down_pos, round_is}
@@ -13,14 +15,13 @@ use lib.Ieee.Exact.{HasValue, units_val}
 use lib.Ieee.Order.{drop, kept, round_mono}
 use lib.Ieee.Scale.{grid, overflow, round_same, round_under, grid_scale, normal_of_fraction}
 use lib.Ieee.Scale as scale
-use borrow.Author.Tests.{leb-true}
+use borrow.Author.Tests.{leb-true, le-ltb}
 use Rattle.common.specs.Outcome.{finite}
 use Rattle.common.proofs.Laws.{never}
-use Rattle.common.proofs.Sums.{T_true}
 use Rattle.sizes.specs.Lost.{subnormal}
 use Rattle.sizes.proofs.Band.{round_size}
-use Rattle.sizes.proofs.Looks.{least, from_least}
-use Rattle.rules.proofs.Rounds.{round_neg}
+use Rattle.sizes.proofs.Looks.{least}
+use Rattle.rules.proofs.Rounds.{round_neg, round_shape, le_sizes}
 use Rattle.power_laws.specs.Laws.{Scaled, in_range}
 use Rattle.power_laws.proofs.Signs.{subnormal_turned}
 
@@ -125,12 +126,24 @@ mul_scaled i j (fin s m e) (fin t n d) (fin s' m' e') (fin t' n' d') u v h f =
 
 -- a product in the range is normal when it is rounded
 
+smallest : round binary64 false 1 (2 ^ 1022) ≡ least false
+unfolding round
+smallest = refl
+
 positive_normal : (N D : ℕ) → 0 < D → D ≤ N * 2 ^ 1022 → subnormal (round binary64 false N D) ≡ false
-positive_normal N D P h =
-    let smallest : round binary64 false 1 (2 ^ 1022) ≡ least false = unfold round in refl in
-    let above = round_mono binary64 1 (2 ^ 1022) N D (pow_pos 1022) P (le_trans (le_of_eq (one-mul D)) h) in
-    from_least (round binary64 false N D)
-    (T_true (le (least false) (round binary64 false N D)) (subst (λ (z : Float). T (le z (round binary64 false N D))) smallest above))
+positive_normal N D P h = go (round_shape binary64 false N D)
+  where
+    above : T (le (least false) (round binary64 false N D))
+    above =
+        subst (λ (z : Float). T (le z (round binary64 false N D))) smallest
+        (round_mono binary64 1 (2 ^ 1022) N D (pow_pos 1022) P (le_trans (le_of_eq (one-mul D)) h))
+
+    go : (round binary64 false N D ≡ inf false) ⊎ ((n : ℕ) × (d : ℤ) × (round binary64 false N D ≡ fin false n d)) → subnormal (round binary64 false N D) ≡ false
+    go (inl z) = rw z
+    go (inr z) =
+        rw z.2
+        (le-ltb (z.0 * up z.1 * 2 ^ 1022) (down z.1)
+        (omega (arith, le_sizes 1 (negsuc 1021) z.0 z.1 (subst (λ (x : Float). T (le (least false) x)) z.2 above))))
 
 rounded_normal : (s : Bool) (N D : ℕ) → 0 < D → D ≤ N * 2 ^ 1022 → subnormal (round binary64 s N D) ≡ false
 rounded_normal true N D P h = ap subnormal (sym (round_neg binary64 false N D)) ∙ subnormal_turned (round binary64 false N D) ∙ positive_normal N D P h

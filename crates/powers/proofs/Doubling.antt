@@ -135,13 +135,6 @@ written_set f b w lo hi i x h lo' hi' g p q wider = record {
 pub written_none : (f : ℤ → Float) (w : List Float) (i : ℕ) → length w ≡ 129 → WrittenBy f w w i i
 written_none f w i e = record { held = has_none f w i e; rest = λ k out. refl }
 
--- one more, whatever f is
-pub written_next : (f : ℤ → Float) (b w : List Float) (lo k : ℕ) (x : Float) → lo ≤ k → k < 129 → x ≡ f (exponent_at k) →
-    WrittenBy f b w lo k → WrittenBy f b (set w k x) lo (k + 1)
-written_next f b w lo k x l m e h =
-    written_set f b w lo k k x h lo (k + 1) (has_set f w lo k k x h.held m e lo (k + 1) (λ n p q d. (p, lower n k (omega arith) d))) l (omega arith)
-    (λ n p q. (p, omega arith))
-
 pub written_same : (a : Float) (b w : List Float) (lo hi hi' : ℕ) → hi ≡ hi' → Written a b w lo hi → Written a b w lo hi'
 written_same a b w lo hi hi' e f = rw e at f
 

@@ -5,17 +5,8 @@ use Prim.Native.Nat.{ℕ, suc, ◌-◌, ◌<◌}
 use native.Mathlib.Omega.{arith}
 use lib.Dec.{ltb, leb}
 use lib.IntN.{nat_abs}
-use mir.Syntax.{w32}
-use mir.Val.{SFits}
 use borrow.Author.Tests.{le-leb}
 use Rattle.powers.specs.Powers.{exponent_at}
-
-pub small : (k : ℕ) → k < 129 → SFits w32 (exponent_at k)
-small k h = by (ltb k 64) refl
-  where
-    by : (b : Bool) → ltb k 64 ≡ b → SFits w32 (exponent_at k)
-    by true e = rw e (record { sfits = omega arith })
-    by false e = rw e (record { sfits = omega arith })
 
 pub taken : (k : ℕ) → k < 129 → leb (nat_abs (exponent_at k)) 64 ≡ true
 taken k h = by (ltb k 64) refl

@@ -1,5 +1,4 @@
 pub mod Exponents
-pub mod Highest
 pub mod Doubling
 pub mod Ruled
 pub mod Looked

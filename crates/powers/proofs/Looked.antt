@@ -5,10 +5,10 @@ use mathlib.Core.List.{List}
 use Prim.Native.Nat.{ℕ, suc, ◌+◌, ◌-◌, ◌<◌, ◌≤◌}
 use native.Mathlib.Omega.{arith}
 use lib.Dec.{T, leb, leb→le, ltb→lt}
-use lib.IntN.{ℤ, pos, negsuc, nat_abs, ◌+ℤ◌}
+use lib.IntN.{ℤ, pos, negsuc, nat_abs}
 use lib.Signed.{lt_z}
 use lib.Ieee.{Float}
-use borrow.Author.Tests.{le-ltb, le-leb, lt-leb, ltb-true, ltb-false, leb-true}
+use borrow.Author.Tests.{lt-leb, ltb-true, leb-true}
 use Rattle.common.specs.Outcome.{finite, check, inside}
 use Rattle.common.proofs.Laws.{inside_check, raw_inside}
 use Rattle.rules.specs.Power.{power_rule}
@@ -16,30 +16,11 @@ use Rattle.rules.specs.RawPower.{raw_power, looked_power}
 use Rattle.rules.proofs.Powers.{power_looked}
 use Rattle.rules.proofs.Usual.{power_usual}
 use Rattle.sizes.specs.Usual.{usual_base}
-use Rattle.powers.specs.Powers.{WrittenBy, BarePowers, Powers, ruled, capped, highest, looked_up, place_of}
+use Rattle.powers.specs.Powers.{WrittenBy, BarePowers, Powers, ruled, capped, highest, looked_up}
 use Rattle.powers.specs.Reach.{spans}
 use Rattle.powers.proofs.Doubling.{at_up, at_down}
 
 -- ---- the tests of an exponent
-
--- an exponent that has a place
-pub record Inside (n : ℤ) : Type 0 where
-  pub small : leb (nat_abs n) 64 ≡ true
-  pub sum : n +ℤ pos 64 ≡ pos (place_of n)
-  pub low : place_of n < 129
-
-pub inside_place : (n : ℤ) → lt_z n (negsuc 63) ≡ false → lt_z (pos 64) n ≡ false → Inside n
-inside_place (pos a) p q =
-    let l : a ≤ 64 = ltb-false 64 a q in
-    let s : a + 64 ≡ 64 + a = omega arith in
-    record { small = le-leb a 64 l; sum = ap pos s; low = omega arith }
-inside_place (negsuc a) p q =
-    let l : a ≤ 63 = ltb-false 63 a p in
-    record {
-      small = le-leb (suc a) 64 (omega arith);
-      sum = rw (le-ltb 64 (suc a) (omega arith)) (ap pos (omega arith));
-      low = omega arith;
-    }
 
 pub too_low : (n : ℤ) → lt_z n (negsuc 63) ≡ true → leb (nat_abs n) 64 ≡ false
 too_low (pos a) h = absurd (subst T (sym h) tt)

@@ -2,12 +2,11 @@
 // one by one by the rule.
 #![tactic(auto)]
 
-ghost use Rattle.std.specs.Prelude.{◌≡◌, List, ℕ, ◌+◌, ◌-◌, ◌<◌, ◌≤◌, ◌^◌, length, set, Float};
-ghost use Rattle.rules.specs.Power.{one};
-ghost use Rattle.powers.specs.Powers.{Written, WrittenBy, BarePowers, Powers, ruled, capped, exponent_at, looked_up};
+ghost use Rattle.std.specs.Prelude.{◌≡◌, List, ℕ, ◌+◌, ◌-◌, ◌<◌, ◌≤◌, ◌^◌, Float};
+ghost use Rattle.powers.specs.Powers.{Written, WrittenBy, BarePowers, Powers, ruled, exponent_at, looked_up};
 ghost use Rattle.powers.specs.Reach.{squared};
 
-use common::{least, over};
+use common::over;
 use rules::raw_power;
 use sizes::usual;
 
@@ -17,86 +16,61 @@ fn double(half: usize, count: usize, sq: f64, w: &mut [f64; 129])
     ensures { (a : Float) (b : List Float) (h : ℕ) → h ≤ 31 → half ≡ 2 ^ h → sq ≡ squared h a →
         Written a b w.old 64 (64 + half) → Written a b w.new 64 (64 + half + count) }
 {
-    let mut k: usize = 0;
-    while k < count {
+    for k in 0..count {
         w[64 + half + k] = w[64 + k] * sq;
-        k += 1;
     }
 }
 
-// The power 0. That the table behind a reference has its 129 places is known where it is lent as a slice, as here and in `fill_by_rule`.
-fn put_one(w: &mut [f64])
-    requires { 64 < length w.old }
-    ensures { w.new ≡ set w.old 64 one }
-{
-    w[64] = 1.0;
-}
-
 // The powers of a from 0 to `top`, or to 7.
+// Kept: the doublings stand one by one. The first three have a fixed length and each of the others may be the last, so a loop over them is no plainer.
 fn fill_up(a: f64, top: usize, w: &mut [f64; 129])
     requires { top ≤ 64 }
     ensures { Written a w.old w.new 64 (72 + (top - 7)) }
 {
-    put_one(w);
+    w[64] = 1.0;
     double(1, 1, a, w);
     let a2 = a * a;
     double(2, 2, a2, w);
     let a4 = a2 * a2;
     double(4, 4, a4, w);
-    if top >= 8 {
-        let a8 = a4 * a4;
-        double(8, least(8, top - 7), a8, w);
-        if top >= 16 {
-            let a16 = a8 * a8;
-            double(16, least(16, top - 15), a16, w);
-            if top >= 32 {
-                let a32 = a16 * a16;
-                double(32, least(32, top - 31), a32, w);
-                if top >= 64 {
-                    double(64, 1, a32 * a32, w);
-                }
-            }
-        }
+    if top < 8 {
+        return;
     }
+    let a8 = a4 * a4;
+    double(8, (top - 7).min(8), a8, w);
+    if top < 16 {
+        return;
+    }
+    let a16 = a8 * a8;
+    double(16, (top - 15).min(16), a16, w);
+    if top < 32 {
+        return;
+    }
+    let a32 = a16 * a16;
+    double(32, (top - 31).min(32), a32, w);
+    if top < 64 {
+        return;
+    }
+    double(64, 1, a32 * a32, w);
 }
 
 // The powers from -1 to -low.
-fn fill_down(low: u32, w: &mut [f64; 129])
+fn fill_down(low: usize, w: &mut [f64; 129])
     requires { low ≤ 64 }
     ensures { (a : Float) (b : List Float) (hi : ℕ) → 65 + low ≤ hi →
         Written a b w.old 64 hi → Written a b w.new (64 - low) hi }
 {
-    let mut k: u32 = 0;
-    while k < low {
-        let at = k as usize;
-        w[63 - at] = over(1.0, w[65 + at]);
-        k += 1;
+    for k in 0..low {
+        w[63 - k] = over(1.0, w[65 + k]);
     }
-}
-
-// n, or 64 where that is less.
-fn cap(n: u32) -> u32
-    ensures { result ≡ capped n }
-{
-    if n < 64 { n } else { 64 }
-}
-
-// The highest power that is worked.
-fn top_of(high: u32, low: u32) -> u32
-    ensures { result ≡ low + (high - low) }
-{
-    if high < low { low } else { high }
 }
 
 // The powers from -down to up, no further than 64 either way, with no look at them: at a usual base they are the rule's.
 pub fn fill_bare(a: f64, up: u32, down: u32, w: &mut [f64; 129])
     ensures { BarePowers a w.old w.new up down }
 {
-    let high = cap(up);
-    let low = cap(down);
-    let top = top_of(high, low);
-    fill_up(a, top as usize, w);
-    fill_down(low, w);
+    fill_up(a, up.max(down).min(64) as usize, w);
+    fill_down(down.min(64) as usize, w);
 }
 
 // The exponent whose power stands at k.
@@ -108,22 +82,13 @@ fn exponent_at(k: usize) -> i32
 }
 
 // The powers of any base that stand from `lo` to below `hi`, one by one.
-fn fill_by_rule(a: f64, lo: usize, hi: usize, w: &mut [f64])
-    requires { (lo ≤ hi) × (hi ≤ 129) × (length w.old ≡ 129) }
+fn fill_by_rule(a: f64, lo: usize, hi: usize, w: &mut [f64; 129])
+    requires { (lo ≤ hi) × (hi ≤ 129) }
     ensures { WrittenBy (ruled a) w.old w.new lo hi }
 {
-    let mut k = lo;
-    while k < hi {
+    for k in lo..hi {
         w[k] = raw_power(a, exponent_at(k));
-        k += 1;
     }
-}
-
-// n - 7, or 0.
-fn past_seven(n: u32) -> u32
-    ensures { result ≡ n - 7 }
-{
-    if n < 7 { 0 } else { n - 7 }
 }
 
 // The powers from -down to up of any base, no further than 64 either way, as the rule has them: a NaN for one that is refused.
@@ -133,9 +98,9 @@ pub fn fill_powers(a: f64, up: u32, down: u32, w: &mut [f64; 129])
     if usual(a) {
         fill_bare(a, up, down, w);
     } else {
-        let low = cap(down);
-        let more = past_seven(top_of(cap(up), low));
-        fill_by_rule(a, 64 - low as usize, 72 + more as usize, w);
+        let top = up.max(down).min(64) as usize;
+        let low = down.min(64) as usize;
+        fill_by_rule(a, 64 - low, 65 + top.max(7), w);
     }
 }
 
@@ -143,12 +108,9 @@ pub fn fill_powers(a: f64, up: u32, down: u32, w: &mut [f64; 129])
 pub fn power_in(w: &[f64; 129], n: i64) -> f64
     ensures { result ≡ looked_up w.now n }
 {
-    if n < -64 {
-        return 0.0 / 0.0;
+    if n < -64 || n > 64 {
+        f64::NAN
+    } else {
+        w[(n + 64) as usize]
     }
-    if n > 64 {
-        return 0.0 / 0.0;
-    }
-    let at = (n + 64) as usize;
-    w[at]
 }

@@ -3,7 +3,7 @@ use mathlib.Core.Path.{◌≡◌, refl, sym, ap, ◌∙◌}
 use lib.Ieee.{Float}
 use borrow.Fn.Kinds.{Out}
 use Rattle.common.specs.Outcome.{check}
-use Rattle.common.proofs.Same.{One, same_answer}
+use Rattle.common.proofs.Same.{One, same_result}
 use Rattle.common.specs.Number.{Number}
 use Rattle.properties.specs.Td.{Formula, Td2v, Td2p, Td2u, Td2s, Td2h, Td2cv}
 use Rattle.common.proofs.Numbers.{one_number}
@@ -36,4 +36,4 @@ raw_cp_w_one κs a e x y p q =
     ap (λ (cp : Float). record { cp = cp; w = x.w }) (one_number p.0 q.0) ∙ ap (λ (w : Float). record { cp = y.cp; w = w }) (one_number p.1 q.1)
 
 pub state_p_one : One 0 own.region3_Td.state_p.Kinds.ps own.region3_Td.state_p.Kinds.r own.region3_Td.state_p.Reads.Post
-state_p_one κs a e x y p q = same_answer _ x y p q
+state_p_one κs a e x y p q = same_result _ x y p q

@@ -11,6 +11,7 @@ pub use region3_Td::{
 };
 
 // cp and w of one evaluation, each its number or a NaN.
+// Kept: beside by_number's `CpW`, which differs in a type alone: what is lost is a NaN here, a refusal of its own there; a type parameter would name neither.
 #[derive(Clone, Copy)]
 pub struct RawCpW {
     pub cp: f64,

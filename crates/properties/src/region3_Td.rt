@@ -1,5 +1,6 @@
 // The properties from T and d: R7-97(2012), table 31. First the reduced variables, then the eight properties, each raw: its number, or a NaN
 // where a step of it is lost; cp and w come together. Last the p of a state, which is range-tested.
+// Kept: T and d are two parameters of each call, as in the Rust and in table 31, each with its unit.
 ghost use Rattle.std.specs.Prelude.{◌≡◌};
 ghost use Rattle.common.specs.Outcome.{check};
 ghost use Rattle.common.specs.Answer.{paper};
@@ -8,7 +9,7 @@ ghost use Rattle.properties.specs.Td.{reduced_density, inverse_temperature, Td2v
 ghost use Rattle.properties.specs.Together.{checked, Td2cp_w};
 
 use crate::RawCpW;
-use common::{Answer, DC_WATER, Kelvin, KgPerM3, MPa, RGAS_WATER, TC_WATER, finite_or_nan, over};
+use common::{DC_WATER, Kelvin, KgPerM3, MPa, RGAS_WATER, Refusal, TC_WATER, finite_or_nan, over};
 use helmholtz::{
     Slopes, phi_delta_reg3, phi_tau_reg3, phi_tautau_reg3, polys_0_j_powi_reg3,
     polys_i_ii_ij_jj_powi_reg3, polys_i_j_powi_reg3,
@@ -121,7 +122,7 @@ pub fn raw_cp_w(t: Kelvin, d: KgPerM3) -> RawCpW
 }
 
 // The p of a state that a call works out, MPa: 4 where it lies outside its range.
-pub fn state_p(t: Kelvin, d: KgPerM3) -> Answer
+pub fn state_p(t: Kelvin, d: KgPerM3) -> Result<f64, Refusal>
     ensures { paper result ≡ state_pressure (check t.0) (check d.0) }
 {
     settle_p(MPa(raw_p(t, d)))

@@ -10,8 +10,7 @@ ghost use Rattle.r4.specs.Saturation.{p_saturation, p_saturation_rule, T_saturat
 ghost use Rattle.r4.specs.Quotients.{quotient_of, quotient_d};
 
 use common::{
-    Answer, Kelvin, MPa, P_FROM, P_MAX4, T_FROM, T_MAX4, Verdict, check_only, is_finite, or_nan,
-    over, settle,
+    Kelvin, MPa, P_SATURATED, Refusal, T_SATURATED, check_only, finite_or_nan, or_nan, over, settle,
 };
 use inverses::raw_root;
 use rules::power;
@@ -55,6 +54,8 @@ fn p_steps(t: f64) -> f64
 }
 
 // Of equation 31 the quotient D, by β.
+// Kept: `quotient` and this differ in the root's sign and in the coefficients' places. One function of both would take eight coefficients and the sign, and
+// neither equation would stand as printed.
 fn quotient_d(beta: f64) -> f64
     ensures { (β : Outcome Float) → Raw β beta → Raw (quotient_d β) result }
 {
@@ -73,30 +74,26 @@ fn t_steps(p: f64) -> f64
     0.5 * (N10 + d - raw_root(square))
 }
 
+// Kept: this and the next are alike, and as the border's two: each is a name of the Rust's, with its own unit, range and equation.
 // The saturation pressure in MPa.
-pub fn p_saturation(t: Kelvin) -> Answer
+pub fn p_saturation(t: Kelvin) -> Result<f64, Refusal>
     ensures { paper result ≡ p_saturation_rule t.0 }
 {
-    match check_only(t.0, T_FROM, T_MAX4) {
-        Verdict::Accepted => settle(p_steps(t.0)),
-        Verdict::Refused(k) => Answer::Refused(k),
-    }
+    check_only(t.0, T_SATURATED)?;
+    settle(p_steps(t.0))
 }
 
 // The saturation temperature in K.
-pub fn T_saturation(p: MPa) -> Answer
+pub fn T_saturation(p: MPa) -> Result<f64, Refusal>
     ensures { paper result ≡ T_saturation_rule p.0 }
 {
-    match check_only(p.0, P_FROM, P_MAX4) {
-        Verdict::Accepted => settle(t_steps(p.0)),
-        Verdict::Refused(k) => Answer::Refused(k),
-    }
+    check_only(p.0, P_SATURATED)?;
+    settle(t_steps(p.0))
 }
 
 // For the layers above, which have tested p and test once more at the end: equation 31 at any p, and a NaN where a step is refused.
 pub fn raw_T_saturation(p: MPa) -> f64
     ensures { result ≡ or_nan (T_saturation p.0) }
 {
-    let t = t_steps(p.0);
-    if is_finite(t) { t } else { 0.0 / 0.0 }
+    finite_or_nan(t_steps(p.0))
 }

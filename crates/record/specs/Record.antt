@@ -1,7 +1,7 @@
 -- To believe: the property record of docs/SCOPE.md: T, d, v, p, h, s, u, cv, cp, w, and where a volume comes from. Assumes nothing: these are definitions.
 use Rattle.std.specs.Prelude.{ℕ, List, [], ◌∷◌, Float}
 use Rattle.common.specs.Outcome.{Outcome, value, refused, zero_f}
-use Rattle.common.specs.Answer.{paper_verdict}
+use Rattle.common.specs.Answer.{paper}
 use Rattle.subregion.specs.Letter.{ascii_of}
 use Rattle.record.specs.declared.Record.{Record}
 use Rattle.record.specs.declared.RecordAnswer.{RecordAnswer}
@@ -20,7 +20,7 @@ report (refused k) = (refused k, zero_record)
 
 -- and of an answer
 abbrev pub paper_record : RecordAnswer → Outcome Unit × Record
-paper_record a = (paper_verdict a.verdict, a.record)
+paper_record a = (paper a.verdict, a.record)
 
 -- the ten numbers, in order: what an exported call and a reply hold
 abbrev pub fields_of : Record → List Float

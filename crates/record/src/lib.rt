@@ -2,17 +2,17 @@
 // tested where it comes out (`state`).
 #![tactic(auto)]
 
-use common::Verdict;
+use common::Refusal;
 use subregion::Letter;
 
 mod records;
 mod state;
 
-pub use records::{blank, fields, origin_byte, refuse};
+pub use records::refuse;
 pub use state::{density, settle_p, settle_t, settle_v};
 
 // The property record: K, kg/m3, m3/kg, MPa, kJ/kg, kJ/(kg K), kJ/kg, kJ/(kg K), kJ/(kg K), m/s.
-#[derive(Clone, Copy)]
+#[derive(Clone, Copy, Debug, Default, PartialEq)]
 pub struct Record {
     pub T: f64,
     pub d: f64,
@@ -27,14 +27,16 @@ pub struct Record {
 }
 
 // The answer of a call for a record: all +0.0 where it is refused.
-#[derive(Clone, Copy)]
+// Kept: no Result, since the caller's record goes in by value and comes back zeroed on a refusal, a rule of the project (decision 28).
+#[derive(Clone, Copy, Debug, PartialEq)]
 pub struct RecordAnswer {
-    pub verdict: Verdict,
+    pub verdict: Result<(), Refusal>,
     pub record: Record,
 }
 
 // Where a volume comes from: a letter's equation, or the answer at the critical point, which has no letter.
-#[derive(Clone, Copy)]
+// Kept: an Option<Letter> would be no plainer, since its None says nothing of the critical point.
+#[derive(Clone, Copy, Debug, PartialEq, Eq)]
 pub enum Origin {
     Subregion(Letter),
     Critical,

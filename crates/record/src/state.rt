@@ -6,53 +6,48 @@ ghost use Rattle.common.specs.Answer.{paper};
 ghost use Rattle.record.specs.State.{tested, pressure_of, temperature_of, density_of, volume_of};
 
 use common::{
-    Answer, D_FROM, D_TO, Kelvin, M3PerKg, MPa, P_FROM, P_TO, Refusal, T_FROM, T_TO, is_finite,
-    over, ranged,
+    D_RANGE, Interval, Kelvin, KgPerM3, M3PerKg, MPa, P_RANGE, Refusal, T_RANGE, in_d, over, settle,
 };
 
-fn settle_in(x: f64, from: f64, to: f64) -> Answer
-    ensures { paper result ≡ then (check x) (tested from to) }
+fn settle_in(x: f64, range: Interval) -> Result<f64, Refusal>
+    ensures { paper result ≡ then (check x) (tested range.from range.to) }
 {
-    if is_finite(x) {
-        if ranged(x, from, to) {
-            return Answer::Value(x);
-        }
-        return Answer::Refused(Refusal::State);
+    settle(x)?;
+    if !range.contains(x) {
+        return Err(Refusal::State);
     }
-    Answer::Refused(Refusal::Step)
+    Ok(x)
 }
 
 // A pressure.
-pub fn settle_p(p: MPa) -> Answer
+pub fn settle_p(p: MPa) -> Result<f64, Refusal>
     ensures { paper result ≡ pressure_of (check p.0) }
 {
-    settle_in(p.0, P_FROM, P_TO)
+    settle_in(p.0, P_RANGE)
 }
 
 // A temperature.
-pub fn settle_t(t: Kelvin) -> Answer
+pub fn settle_t(t: Kelvin) -> Result<f64, Refusal>
     ensures { paper result ≡ temperature_of (check t.0) }
 {
-    settle_in(t.0, T_FROM, T_TO)
+    settle_in(t.0, T_RANGE)
 }
 
 // The density in kg/m3 of a volume. What is in its range is finite, and so is the volume of it: nothing else need be looked at then.
-pub fn density(v: M3PerKg) -> Answer
+pub fn density(v: M3PerKg) -> Result<f64, Refusal>
     ensures { paper result ≡ density_of (check v.0) }
 {
-    let d = 1.0 / v.0;
-    if ranged(d, D_FROM, D_TO) {
-        return Answer::Value(d);
+    let d = KgPerM3(1.0 / v.0);
+    if in_d(d) {
+        return Ok(d.0);
     }
-    settle_in(over(1.0, v.0), D_FROM, D_TO)
+    settle_in(over(1.0, v.0), D_RANGE)
 }
 
 // A volume whose density is in its range.
-pub fn settle_v(v: M3PerKg) -> Answer
+pub fn settle_v(v: M3PerKg) -> Result<f64, Refusal>
     ensures { paper result ≡ volume_of (check v.0) }
 {
-    match density(v) {
-        Answer::Value(_) => Answer::Value(v.0),
-        Answer::Refused(k) => Answer::Refused(k),
-    }
+    density(v)?;
+    Ok(v.0)
 }

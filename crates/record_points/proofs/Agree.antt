@@ -17,7 +17,8 @@ use Rattle.volume.specs.Equation.{volume_at}
 use Rattle.record.specs.declared.Origin.{Origin}
 use Rattle.record.specs.declared.Origin.TheVariants.{Subregion, Critical}
 use Rattle.origin.specs.Origin.{at_critical, origin_at, origin_rule}
-use Rattle.volume.specs.State.{State, state_of, state_by}
+use Rattle.volume.specs.declared.State.{State}
+use Rattle.volume.specs.State.{state_of, state_by}
 use Rattle.volume_at.specs.Volumes.{found_rule}
 use Rattle.td_record.specs.Steps.{record_steps, record_after, pressure_from}
 use Rattle.properties.specs.Td.{Td2h, Td2s, Td2u, Td2cv, Td2cp, Td2w}
@@ -46,7 +47,7 @@ pub density_is : (p t : Float) (r : Record) → pT_rule p t ≡ value r → (den
 unfolding pT_rule row_rule
 density_is p t r e =
     went_on (found_rule p t) _ r _ e (λ s h k. (
-      ap (λ (o : Outcome State). (line_in o).density.0) h ∙ sym (record_d t s.d s.v Worked r k),
+      ap (λ (o : Outcome State). (line_in o).density.0) h ∙ sym (record_d t s.density.0 s.volume.0 Worked r k),
       ap (λ (o : Outcome State). (line_in o).refusal) h,
     ))
 

@@ -23,7 +23,8 @@ use Rattle.boundaries.specs.Boundary.{walk_rule, row_at, table, straight3ef}
 use Rattle.boundary.specs.Choice.{letter_at, ab_rule, cdef_rule, chijk_rule, clmnopjk_rule, near_rule, cq_rk_rule, csrk_rule, cst_rule, ct_rule, limit}
 use Rattle.volume.specs.Equation.{volume_at, volume_by}
 use Rattle.origin.specs.Origin.{origin_at, origin_rule}
-use Rattle.volume.specs.State.{State, state_by}
+use Rattle.volume.specs.declared.State.{State}
+use Rattle.volume.specs.State.{state_by}
 use Rattle.volume_at.specs.Volumes.{state_at, found_rule, pT2v_reg3_rule}
 use Rattle.printed.specs.Backward.{table_t3a_ph, table_t3b_ph, table_v3a_ph, table_v3b_ph, table_t3a_ps, table_t3b_ps, table_v3a_ps, table_v3b_ps, table_p3a_hs, table_p3b_hs}
 use Rattle.backward_equations.specs.Equation.{worked, worked_by}
@@ -114,7 +115,7 @@ hs_lost = refl
 -- ---- the critical point
 
 abbrev is_state : ℕ → Float → Float → Outcome State → Bool
-is_state byte v d (value s) = eqb (byte_of s.origin) byte && (same s.v v && same s.d d)
+is_state byte v d (value s) = eqb (byte_of s.origin) byte && (same s.volume.0 v && same s.density.0 d)
 is_state byte v d (refused k) = false
 
 pub pT_critical : T (is_state 0 (decimal 0_003105590062111801 18) (whole 322) (found_rule (decimal 22_064 3) (decimal 647_096 3)))

@@ -7,7 +7,7 @@ use Rattle.subregion.specs.declared.Letter.{Letter}
 use Rattle.subregion.specs.Letter.{byte_in}
 use Rattle.record.specs.declared.Record.{Record}
 use Rattle.column_run.specs.Columns.{Lent, lent}
-use Rattle.secant.specs.Secant.{Proposal}
+use Rattle.secant.specs.declared.Proposal.{Proposal}
 use Rattle.search.specs.Calls.{SearchedReport}
 use Rattle.exchange_record.specs.declared.Pair.{Pair}
 use Rattle.exchange_entry.specs.Call.{pair_in, Exchanged}
@@ -26,10 +26,10 @@ ExportedRecord s byte fields = (byte ≡ number_in s.0) × (fields ≡ fields_of
 
 -- what a search found and its trials: +0.0 and none beside a refusal
 abbrev pub nothing : Proposal
-nothing = record { x = zero_f; trials = 0 }
+nothing = record { place = zero_f; trials = 0 }
 
 abbrev pub ExportedFound : Outcome Proposal → ℕ → Float → ℕ → Type 0
-ExportedFound o byte number trials = (byte ≡ number_in o) × (number ≡ (value_or nothing o).x) × (trials ≡ (value_or nothing o).trials)
+ExportedFound o byte number trials = (byte ≡ number_in o) × (number ≡ (value_or nothing o).place) × (trials ≡ (value_or nothing o).trials)
 
 -- a record whose state a search found, and its trials: +0.0 in every field and none beside a refusal
 abbrev pub ExportedSearched : SearchedReport → ℕ → List Float → ℕ → Type 0

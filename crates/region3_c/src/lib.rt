@@ -4,6 +4,8 @@
 // cp and w together, the letter, the five records, what a search finds and the records there, the columns, the exchange record.
 #![tactic(auto)]
 
+// Kept: a function for each call, since the C interface needs its name and its parameters.
+
 mod exported;
 
 ghost use Rattle.std.specs.Prelude.{◌≡◌};
@@ -25,11 +27,11 @@ ghost use Rattle.exchange_entry.specs.Write.{written_by};
 ghost use Rattle.region3_c.specs.Exported.{Exported, ExportedLetter, ExportedRecord, ExportedFound, ExportedSearched, ExportedColumns, ExportedRead};
 ghost use Rattle.region3_c.specs.Version.{library_version};
 
-use common::{KJPerKg, KJPerKgK, Kelvin, KgPerM3, M3PerKg, MPa, verdict_byte};
+use common::{KJPerKg, KJPerKgK, Kelvin, KgPerM3, M3PerKg, MPa, refusal_byte};
 use exchange_entry::{verdict_number, verdict_pair};
-use exported::{exported, exported_found};
-use record::{blank, fields};
-use subregion::{letter_byte, refusal_byte};
+use exported::{exported, exported_found, exported_record, exported_searched};
+use record::Record;
+use subregion::letter_byte;
 
 pub fn r3_library_version() -> u32
     ensures { result ≡ library_version }
@@ -106,10 +108,8 @@ pub fn r3_cp_w(t: f64, d: f64, cp: &mut f64, w: &mut f64, w_refusal: &mut u8) ->
     ensures { Exported (cp_and_w_rule t d).cp result cp.new × Exported (cp_and_w_rule t d).w w_refusal.new w.new }
 {
     let both = by_number::Td2cp_w_reg3(Kelvin(t), KgPerM3(d));
-    let first = both.cp;
-    let second = both.w;
-    *w_refusal = exported(second, w);
-    exported(first, cp)
+    *w_refusal = exported(both.w, w);
+    exported(both.cp, cp)
 }
 
 pub fn r3_letter(p: f64, t: f64, letter: &mut u8) -> u8
@@ -123,46 +123,36 @@ pub fn r3_letter(p: f64, t: f64, letter: &mut u8) -> u8
 pub fn r3_td(t: f64, d: f64, out: &mut [f64; 10]) -> u8
     ensures { ExportedRecord (report (record_rule t d)) result out.new }
 {
-    let a = td_record::Td_reg3(blank(), Kelvin(t), KgPerM3(d));
-    *out = fields(a.record);
-    let v = a.verdict;
-    verdict_byte(v)
+    let a = td_record::Td_reg3(Record::default(), Kelvin(t), KgPerM3(d));
+    exported_record(a, out)
 }
 
 pub fn r3_pt(p: f64, t: f64, out: &mut [f64; 10]) -> u8
     ensures { ExportedRecord (report (pT_rule p t)) result out.new }
 {
-    let a = region3::pT_reg3(blank(), MPa(p), Kelvin(t));
-    *out = fields(a.record);
-    let told = a.verdict;
-    verdict_byte(told)
+    let a = region3::pT_reg3(Record::default(), MPa(p), Kelvin(t));
+    exported_record(a, out)
 }
 
 pub fn r3_ph(p: f64, h: f64, out: &mut [f64; 10]) -> u8
     ensures { ExportedRecord (report (ph_rule p h)) result out.new }
 {
-    let a = region3::ph_reg3(blank(), MPa(p), KJPerKg(h));
-    *out = fields(a.record);
-    let v = a.verdict;
-    verdict_byte(v)
+    let a = region3::ph_reg3(Record::default(), MPa(p), KJPerKg(h));
+    exported_record(a, out)
 }
 
 pub fn r3_ps(p: f64, s: f64, out: &mut [f64; 10]) -> u8
     ensures { ExportedRecord (report (ps_rule p s)) result out.new }
 {
-    let a = region3::ps_reg3(blank(), MPa(p), KJPerKgK(s));
-    *out = fields(a.record);
-    let v = a.verdict;
-    verdict_byte(v)
+    let a = region3::ps_reg3(Record::default(), MPa(p), KJPerKgK(s));
+    exported_record(a, out)
 }
 
 pub fn r3_hs(h: f64, s: f64, out: &mut [f64; 10]) -> u8
     ensures { ExportedRecord (report (hs_rule h s)) result out.new }
 {
-    let a = region3::hs_reg3(blank(), KJPerKg(h), KJPerKgK(s));
-    *out = fields(a.record);
-    let v = a.verdict;
-    verdict_byte(v)
+    let a = region3::hs_reg3(Record::default(), KJPerKg(h), KJPerKgK(s));
+    exported_record(a, out)
 }
 
 // What a search finds, and its trials: T at p and v, d at T and h, d at T and s; then the records there.
@@ -187,31 +177,22 @@ pub fn r3_ts2d(t: f64, s: f64, out: &mut f64, trials: &mut u32) -> u8
 pub fn r3_pv(p: f64, v: f64, out: &mut [f64; 10], trials: &mut u32) -> u8
     ensures { ExportedSearched (report_searched (pv_rule p v)) result out.new trials.new }
 {
-    let a = search::pv_reg3(blank(), MPa(p), M3PerKg(v));
-    *out = fields(a.record);
-    *trials = a.trials;
-    let v = a.verdict;
-    verdict_byte(v)
+    let a = search::pv_reg3(Record::default(), MPa(p), M3PerKg(v));
+    exported_searched(a, out, trials)
 }
 
 pub fn r3_th(t: f64, h: f64, out: &mut [f64; 10], trials: &mut u32) -> u8
     ensures { ExportedSearched (report_searched (Th_rule t h)) result out.new trials.new }
 {
-    let a = search::Th_reg3(blank(), Kelvin(t), KJPerKg(h));
-    *out = fields(a.record);
-    *trials = a.trials;
-    let v = a.verdict;
-    verdict_byte(v)
+    let a = search::Th_reg3(Record::default(), Kelvin(t), KJPerKg(h));
+    exported_searched(a, out, trials)
 }
 
 pub fn r3_ts(t: f64, s: f64, out: &mut [f64; 10], trials: &mut u32) -> u8
     ensures { ExportedSearched (report_searched (Ts_rule t s)) result out.new trials.new }
 {
-    let found = search::Ts_reg3(blank(), Kelvin(t), KJPerKgK(s));
-    *out = fields(found.record);
-    *trials = found.trials;
-    let v = found.verdict;
-    verdict_byte(v)
+    let a = search::Ts_reg3(Record::default(), Kelvin(t), KJPerKgK(s));
+    exported_searched(a, out, trials)
 }
 
 // The column run: 0, or 7 and nothing written.
@@ -224,18 +205,17 @@ pub fn r3_columns(
 ) -> u8
     ensures { ExportedColumns (columns_rule p.now t.now (lent letter.old density.old refusal.old)) result letter.new density.new refusal.new }
 {
-    verdict_byte(column_run::columns(p, t, letter, density, refusal))
+    refusal_byte(column_run::columns(p, t, letter, density, refusal))
 }
 
 // An exchange record: the byte of the pair that was read, 0 where none was, and the pair's own answer.
 pub fn r3_read(bytes: &[u8], pair: &mut u8, out: &mut [f64; 10]) -> u8
     ensures { ExportedRead bytes.now result pair.new out.new }
 {
-    let a = exchange_entry::answer(blank(), bytes);
-    *out = fields(a.record);
-    let v = a.verdict;
-    *pair = verdict_pair(v);
-    verdict_number(v)
+    let a = exchange_entry::answer(Record::default(), bytes);
+    *out = a.record.into();
+    *pair = verdict_pair(a.verdict);
+    verdict_number(a.verdict)
 }
 
 // The record of a point, by the byte of its pair: 0 and 22 bytes at the front, or a number and every byte as found.

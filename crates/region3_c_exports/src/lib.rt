@@ -1,5 +1,6 @@
 // The exported functions of libregion3_c.a, the library for callers in C and Rust: each is region3_c's of the same name, under the same clause. The units, the
 // numbers of the refusals and what stands behind each pointer are in bindings/c/region3.h.
+// Kept: each call once more, with its clause again, since the C interface needs a symbol of its own for each.
 #![tactic(auto)]
 
 ghost use Rattle.std.specs.Prelude.{◌≡◌};

@@ -1,47 +1,30 @@
 // The 88 bytes of a reply.
-ghost use Rattle.std.specs.Prelude.{◌≡◌, ◌+◌, ◌≤◌, ◌<◌, ◌^◌, length};
-ghost use Rattle.std.proofs.lemmas.List.Edits.{sets};
-ghost use Rattle.buffer.specs.Bytes.{eight, placed};
-ghost use Rattle.reply.specs.Bytes.{head_bytes, reply_bytes};
+ghost use Rattle.std.specs.Prelude.{◌≡◌};
+ghost use Rattle.buffer.specs.Bytes.{placed};
+ghost use Rattle.reply.specs.Bytes.{reply_bytes};
 
 use crate::Reply;
-use buffer::{put_float, put_word, wide};
+use buffer::{put_bytes, put_float};
 
-// A whole number of 32 bits, with its bound.
-fn half(n: u32) -> u64
-    ensures { (result ≡ n) × (result < 2 ^ 32) }
-{
-    n as u64
-}
+impl From<Reply> for [u8; 88] {
+    ghost from_gives = { λ r bytes. bytes ≡ reply_bytes r };
 
-// The first eight bytes of a reply as one number.
-fn head(refusal: u8, letter: u8, beside: u32) -> u64
-    ensures { eight result ≡ head_bytes refusal letter beside }
-{
-    wide(refusal) + 256 * wide(letter) + 0x1_0000_0000 * half(beside)
-}
-
-fn put_bytes(out: &mut [u8], at: usize, r: Reply)
-    requires { at + 88 ≤ length out.old }
-    ensures { out.new ≡ sets out.old at (reply_bytes r) }
-{
-    put_word(out, at, head(r.refusal, r.letter, r.beside));
-    let numbers = r.numbers;
-    let mut k = 0;
-    while k < 10 {
-        put_float(out, at + 8 + 8 * k, numbers[k]);
-        k += 1;
+    fn from(r: Reply) -> [u8; 88] {
+        let mut bytes = [0; 88];
+        bytes[0] = r.refusal;
+        bytes[1] = r.letter;
+        put_bytes(&mut bytes, 4, &r.beside.to_le_bytes());
+        for (k, x) in r.numbers.iter().enumerate() {
+            put_float(&mut bytes, 8 + 8 * k, *x);
+        }
+        bytes
     }
 }
 
 // The bytes of a reply from an index on, where all of them lie in the page.
+// Kept: bytes with an index, and no Vec that they are pushed to: a reply has fixed bytes in a page of fixed memory.
 pub fn put_reply(out: &mut [u8], at: usize, r: Reply)
     ensures { out.new ≡ placed out.old at (reply_bytes r) }
 {
-    let n = out.len();
-    if n >= 88 {
-        if at <= n - 88 {
-            put_bytes(out, at, r);
-        }
-    }
+    put_bytes(out, at, &<[u8; 88]>::from(r));
 }

@@ -1,15 +1,16 @@
 // The shapes of a reply: a refusal, one number, a letter, a record.
 ghost use Rattle.std.specs.Prelude.{◌≡◌};
+ghost use Rattle.common.specs.Outcome.{value};
 ghost use Rattle.common.specs.Answer.{paper};
-ghost use Rattle.subregion.specs.Letter.{paper_letter};
 ghost use Rattle.record.specs.Record.{paper_record};
 ghost use Rattle.reply.specs.Shape.{refused_by, number_reply, letter_reply, record_reply};
 
 use crate::Reply;
-use common::{Answer, number, verdict_byte};
-use record::{RecordAnswer, fields};
-use subregion::{LetterAnswer, letter_byte, refusal_byte};
+use common::{Refusal, refusal_byte};
+use record::RecordAnswer;
+use subregion::{Letter, letter_byte};
 
+// A refusal's number, and nothing else.
 pub fn refused(k: u8) -> Reply
     ensures { result ≡ refused_by k }
 {
@@ -21,41 +22,41 @@ pub fn refused(k: u8) -> Reply
     }
 }
 
-pub fn number_reply(a: Answer) -> Reply
-    ensures { result ≡ number_reply (paper a) }
+// One number, in the first place.
+pub fn first(x: f64) -> Reply
+    ensures { result ≡ number_reply (value x) }
 {
-    match a {
-        Answer::Value(x) => Reply {
-            refusal: 0,
-            letter: 0,
-            beside: 0,
-            numbers: [x, 0.0, 0.0, 0.0, 0.0, 0.0, 0.0, 0.0, 0.0, 0.0],
-        },
-        Answer::Refused(k) => refused(number(k)),
+    let mut numbers = [0.0; 10];
+    numbers[0] = x;
+    Reply {
+        numbers,
+        ..refused(0)
     }
 }
 
-pub fn letter_reply(c: LetterAnswer) -> Reply
-    ensures { result ≡ letter_reply (paper_letter c) }
+pub fn number_reply(a: Result<f64, Refusal>) -> Reply
+    ensures { result ≡ number_reply (paper a) }
 {
-    let numbers = [0.0; 10];
+    match a {
+        Ok(x) => first(x),
+        Err(k) => refused(k.into()),
+    }
+}
+
+pub fn letter_reply(c: Result<Letter, Refusal>) -> Reply
+    ensures { result ≡ letter_reply (paper c) }
+{
     Reply {
-        refusal: refusal_byte(c),
         letter: letter_byte(c),
-        beside: 0,
-        numbers,
+        ..refused(refusal_byte(c))
     }
 }
 
 pub fn record_reply(a: RecordAnswer) -> Reply
     ensures { result ≡ record_reply (paper_record a) }
 {
-    let v = a.verdict;
-    let x = a.record;
     Reply {
-        refusal: verdict_byte(v),
-        letter: 0,
-        beside: 0,
-        numbers: fields(x),
+        numbers: a.record.into(),
+        ..refused(refusal_byte(a.verdict))
     }
 }

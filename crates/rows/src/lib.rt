@@ -10,32 +10,35 @@ ghost use Rattle.std.proofs.lemmas.List.Edits.{sets};
 ghost use Rattle.text.specs.Text.{Wrote};
 ghost use Rattle.rows.specs.Lines.{p_column, t_column, rows_in, page_of, end_of};
 
-use common::least;
 use put::{put_last, put_lines};
 use take::take_rows;
+
+// What a page is worked in: the columns of its rows, and its lines.
+// Kept: arrays of fixed size with a count beside them: a rule of the project, fixed memory.
+#[derive(Drop)]
+pub struct Room {
+    pub ps: [f64; 512],
+    pub ts: [f64; 512],
+    pub lines: [u8; 16384],
+}
 
 fn rows_in(done: u64, n: usize) -> usize
     ensures { result ≡ rows_in done n }
 {
-    least(least(n / 16, 512), (u64::MAX - done) as usize)
+    (n / 16).min(512).min((u64::MAX - done) as usize)
 }
 
 // The lines of up to 512 rows, after `done` rows, by way of the two columns. Answers where they end.
-pub fn page(
-    bytes: &[u8],
-    done: u64,
-    ps: &mut [f64; 512],
-    ts: &mut [f64; 512],
-    lines: &mut [u8; 16384],
-) -> usize
-    ensures wrote { Wrote lines.old 0 (page_of done bytes.now) lines.new result }
+// Kept: an index and no slice of the lines, which would leave the room lent, with nothing promised of it.
+pub fn page(bytes: &[u8], done: u64, room: &mut Room) -> usize
+    ensures wrote { Wrote room.old.lines 0 (page_of done bytes.now) room.new.lines result }
     ensures upper_bound { result ≤ 16384 }
-    ensures ps_after { ps.new ≡ sets ps.old 0 (p_column bytes.now (rows_in done (length bytes.now))) }
-    ensures ts_after { ts.new ≡ sets ts.old 0 (t_column bytes.now (rows_in done (length bytes.now))) }
+    ensures ps_after { room.new.ps ≡ sets room.old.ps 0 (p_column bytes.now (rows_in done (length bytes.now))) }
+    ensures ts_after { room.new.ts ≡ sets room.old.ts 0 (t_column bytes.now (rows_in done (length bytes.now))) }
 {
     let n = rows_in(done, bytes.len());
-    take_rows(bytes, n, ps, ts);
-    put_lines(ps, ts, n, done, lines)
+    take_rows(bytes, n, &mut room.ps, &mut room.ts);
+    put_lines(&room.ps, &room.ts, n, done, &mut room.lines)
 }
 
 // The last line, after the page of the same bytes. Answers where it ends.

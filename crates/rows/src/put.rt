@@ -1,43 +1,46 @@
-// From choices to lines. Each function writes from an index on and answers the next.
+// From choices to lines.
 ghost use Rattle.std.specs.Prelude.{◌≡◌, ◌++◌, ◌+◌, ◌*◌, ◌≤◌, ◌<◌, ◌^◌, length};
-ghost use Rattle.subregion.specs.Letter.{paper_letter};
+ghost use Rattle.common.specs.Answer.{paper};
 ghost use Rattle.text.specs.Text.{decimal, Wrote};
 ghost use Rattle.rows.specs.Lines.{mark_in, line_of, lines_of, last_line};
 
 use boundary::sub_region3_pT;
-use common::{Kelvin, MPa};
-use subregion::{LetterAnswer, ascii, refusal_byte};
-use text::{put, put_decimal};
+use common::{Kelvin, MPa, Refusal, refusal_byte};
+use subregion::Letter;
+use text::Writer;
 
-fn mark(c: LetterAnswer) -> u8
-    ensures { result ≡ mark_in (paper_letter c) }
+fn mark(c: Result<Letter, Refusal>) -> u8
+    ensures { result ≡ mark_in (paper c) }
 {
     match c {
-        LetterAnswer::Value(l) => ascii(l),
-        LetterAnswer::Refused(_) => b'-',
+        Ok(l) => l.into(),
+        Err(_) => b'-',
     }
 }
 
 // A number and the text after it; `put_decimal` wants room for twenty digits.
-fn put_number(out: &mut [u8; 16384], at: usize, n: u64, after: &[u8]) -> usize
-    requires { at + 20 + length after.now ≤ 16384 }
-    ensures { Wrote out.old at (decimal n ++ after.now) out.new result }
+fn put_number(text: &mut Writer, n: u64, after: &[u8])
+    requires { text.old.at + 20 + length after.now ≤ length text.old.out.now }
+    ensures wrote { Wrote text.old.out.now text.old.at (decimal n ++ after.now) text.new.out.now text.new.at }
+    ensures lent { text.new.out.ghost_name ≡ text.old.out.ghost_name }
 {
-    let next = put_decimal(out, at, n);
-    put(out, next, after)
+    text.put_decimal(n);
+    text.put(after);
 }
 
 // The line of one row, of 27 bytes at most.
-fn put_line(out: &mut [u8; 16384], at: usize, row: u64, c: LetterAnswer) -> usize
-    requires { at + 44 ≤ 16384 }
-    ensures wrote { Wrote out.old at (line_of row (paper_letter c)) out.new result }
-    ensures upper_bound { result ≤ at + 27 }
+fn put_line(text: &mut Writer, row: u64, c: Result<Letter, Refusal>)
+    requires { text.old.at + 44 ≤ length text.old.out.now }
+    ensures wrote { Wrote text.old.out.now text.old.at (line_of row (paper c)) text.new.out.now text.new.at }
+    ensures upper_bound { text.new.at ≤ text.old.at + 27 }
+    ensures lent { text.new.out.ghost_name ≡ text.old.out.ghost_name }
 {
-    let next = put_number(out, at, row, &[b' ', mark(c), b' ']);
-    put_number(out, next, refusal_byte(c) as u64, b"\n")
+    put_number(text, row, &[b' ', mark(c), b' ']);
+    put_number(text, refusal_byte(c).into(), b"\n");
 }
 
-// The lines of the first n rows of the columns, from index 0 on.
+// The lines of the first n rows of the columns, from index 0 on. Answers where they end.
+// Kept: the columns and the lines apart, for with the room as one it would have to promise that the columns stay.
 pub fn put_lines(
     ps: &[f64; 512],
     ts: &[f64; 512],
@@ -49,23 +52,22 @@ pub fn put_lines(
     ensures wrote { Wrote out.old 0 (lines_of done ps.now ts.now n) out.new result }
     ensures upper_bound { result ≤ 27 * n }
 {
-    let mut at = 0;
-    let mut i = 0;
-    let mut row = done;
-    while i < n {
-        row += 1;
-        at = put_line(out, at, row, sub_region3_pT(MPa(ps[i]), Kelvin(ts[i])));
-        i += 1;
+    let mut text = Writer { out, at: 0 };
+    for i in 0..n {
+        let row = done + i as u64 + 1;
+        put_line(&mut text, row, sub_region3_pT(MPa(ps[i]), Kelvin(ts[i])));
     }
-    at
+    text.at
 }
 
-// The last line, of 52 bytes at most.
+// The last line, of 52 bytes at most. Answers where it ends.
 pub fn put_last(rows: u64, left: u64, out: &mut [u8; 16384]) -> usize
     ensures wrote { Wrote out.old 0 (last_line rows left) out.new result }
     ensures upper_bound { result ≤ 52 }
 {
-    let a = put(out, 0, b"rows ");
-    let b = put_number(out, a, rows, b" left ");
-    put_number(out, b, left, b"\n")
+    let mut text = Writer { out, at: 0 };
+    text.put(b"rows ");
+    put_number(&mut text, rows, b" left ");
+    put_number(&mut text, left, b"\n");
+    text.at
 }

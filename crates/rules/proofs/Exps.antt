@@ -1,19 +1,23 @@
--- The exponential: the nearest whole number by the bits of a quotient, the bound that the range gives it, and that the rule's checks come to one at the end.
+-- The exponential: the nearest whole number of a quotient, the bound that the range gives it, 2^k, and that the rule's checks come to one at the end.
 -- Assumes nothing.
 use mathlib.Core.Path.{◌≡◌, refl, sym, ap, ◌∙◌, subst}
 use mathlib.Core.Logic.{◌⊎◌, inl, inr}
-use Prim.Native.Nat.{ℕ, zero, suc, ◌+◌, ◌-◌, ◌*◌, ◌/◌, ◌%◌, ◌^◌, ◌≤◌, ◌<◌, compare, Ordering}
-use native.Mathlib.Nat.{le_trans, le_of_eq, lt_of_lt_of_le, lt_of_le_of_lt, lt_of_not-le, not-le_of_lt, zero-lt-suc, zero-mul, one-mul, mul-one, mul-pos, mul_comm, mul_assoc, mul_right_comm, mul-le-mul_left, mul-le-mul_right, mul-lt-mul_of_pos_right, le_of_mul-le-mul_right, lt_of_mul-lt-mul_right, eq_of_mul-eq-mul_right, div-mul-le_self, div-lt_iff_lt-mul, mod-eq_of_lt}
+use Prim.Native.Nat.{ℕ, zero, suc, ◌+◌, ◌-◌, ◌*◌, ◌^◌, ◌≤◌, ◌<◌}
+use native.Mathlib.Nat.{le_trans, le_of_eq, lt_of_lt_of_le, lt_of_le_of_lt, zero-lt-suc, zero-mul, one-mul, mul-one, mul-pos, mul_comm, mul_assoc, mul-le-mul_left}
 use native.Mathlib.Omega.{arith}
 use mathlib.Core.Bool.{Bool, true, false, not, ◌&&◌, cond}
 use lib.Dec.{T, leb, ltb, leb→le, le→leb, lt→ltb, lit≤, lit<}
-use lib.IntN.{ℤ, pos, negsuc, neg_ℤ}
+use lib.IntN.{ℤ, pos, negsuc, neg_ℤ, nat_abs, ◌+ℤ◌, ◌-ℤ◌}
+use mir.Syntax.{w64}
+use mir.Val.{SFits, to_z, of_z}
+use mir.ValLaws.{to_z-of_z}
+use Rattle.std.specs.Float.{float_with_sign, round_with, round_ties_even}
+use lib.Ieee.Back.{positive_back}
 use borrow.Author.Tests.{lt-ltb, le-ltb}
 use lib.Pow.{pow_pos, pow-add, pow_mono, pow-lt}
-use lib.Ieee.{Float, nan, inf, fin, binary64, up, down, size, nearest, fits, is_nan, to_bits, of_bits, round, neg, mul, div, of_int, le, lt}
-use lib.Ieee.Bits.{of_bits-to_bits, of_bits-fits}
+use lib.Ieee.{Float, nan, inf, fin, binary64, up, down, fits, nan_bits, of_bits, round, neg, mul, div, of_int, in_float, in_signed, to_signed, le, lt}
+use lib.Ieee.Bits.{of_bits-fits}
 use lib.Ieee.Fits.{and_i, up_pos, down_pos}
-use lib.Ieee.Exact.{HasValue}
 use lib.Ieee.Nearest.{closest, closest_same, closest_mono}
 use lib.Ieee.Order.{round_mono}
 use Rattle.common.specs.Outcome.{Outcome, value, refused, finite, check}
@@ -23,168 +27,58 @@ use Rattle.rules.specs.RawExp.{raw_exp, at_most1010}
 use Rattle.common.proofs.Laws.{never, check_kept}
 use Rattle.common.proofs.Calls.{no_value}
 use Rattle.common.proofs.Formulas.{raw_value, raw_first, raw_fold, raw_add_from, raw_sub_from, raw_by, raw_times, ◌*ʳ◌}
-use Rattle.rules.proofs.Fields.{bits_lt, read_0, read_suc, shape, same}
-use Rattle.rules.proofs.Rounds.{Cmp, cmp, round_neg, round_shape, small_finite, le_sizes, ge_sizes}
+use Rattle.rules.proofs.Fields.{no_nan_bits, read_suc, same}
+use Rattle.rules.proofs.Rounds.{round_neg, round_shape, small_finite, le_sizes, ge_sizes}
 
--- ---- the bits of a number without its sign
+-- ---- the nearest whole number: the size, rounded and cast; and its sign
 
-fits_size : (s : Bool) (m : ℕ) (e : ℤ) → T (fits binary64 (fin s m e)) → T (fits binary64 (fin false m e))
-unfolding fits
-fits_size s zero e t = t
-fits_size s (suc m) e t = t
-
-without_sign : (s : Bool) (a b : ℕ) → 0 + a + b < 0x7ff0_0000_0000_0000 → (cond s 0x8000_0000_0000_0000 0 + a + b) % 0x8000_0000_0000_0000 ≡ 0 + a + b
-without_sign true a b h = omega arith
-without_sign false a b h = omega arith
-
-size_bits : (s : Bool) (m : ℕ) (e : ℤ) → T (fits binary64 (fin s m e)) → to_bits binary64 (fin s m e) % 0x8000_0000_0000_0000 ≡ to_bits binary64 (fin false m e)
-unfolding to_bits
-size_bits s m e t =
-    let n = m * up e * 2 ^ 1074 / down e in
-    let k = size n - 53 in
-    without_sign s (k * 2 ^ 52) (n / 2 ^ k) (bits_lt m e (fits_size s m e t))
-
--- ---- the nearest whole number
-pub closest_lt : (a b : ℕ) → a % b * 2 < b → closest a b ≡ a / b
-closest_lt a b h = go (compare (a % b * 2) b) (cmp (a % b * 2) b)
-  where
-    go : (o : Ordering) → Cmp o (a % b * 2) b → nearest (a / b) o ≡ a / b
-    go Ordering.lt c = refl
-    go Ordering.eq c = absurd (omega arith)
-    go Ordering.gt c = absurd (omega arith)
-
-pub closest_gt : (a b : ℕ) → b < a % b * 2 → closest a b ≡ a / b + 1
-closest_gt a b h = go (compare (a % b * 2) b) (cmp (a % b * 2) b)
-  where
-    go : (o : Ordering) → Cmp o (a % b * 2) b → nearest (a / b) o ≡ a / b + 1
-    go Ordering.lt c = absurd (omega arith)
-    go Ordering.eq c = absurd (omega arith)
-    go Ordering.gt c = omega arith
-
-pub closest_eq : (a b : ℕ) → b ≤ a % b * 2 → a % b * 2 ≤ b → closest a b ≡ a / b + a / b % 2
-closest_eq a b h g = go (compare (a % b * 2) b) (cmp (a % b * 2) b)
-  where
-    go : (o : Ordering) → Cmp o (a % b * 2) b → nearest (a / b) o ≡ a / b + a / b % 2
-    go Ordering.lt c = absurd (omega arith)
-    go Ordering.eq c = refl
-    go Ordering.gt c = absurd (omega arith)
-
--- below a half
-half_0 : (a b : ℕ) → 0 < b → a * 2 < b → closest a b ≡ 0
-half_0 a b B h =
-    let l : a < 1 * b = omega arith in
-    let q : a / b < 1 = (div-lt_iff_lt-mul B).1 l in
-    let z : a / b ≡ 0 = omega arith in
-    let r : a % b ≡ a = mod-eq_of_lt (omega arith) in
-    closest_lt a b (subst (λ (y : ℕ). y * 2 < b) (sym r) h) ∙ z
-
--- ---- the pattern b of a number's size
-module _ (m : ℕ) (e : ℤ) (f : T (fits binary64 (fin false m e))) where
-  pattern : of_bits binary64 (to_bits binary64 (fin false m e)) ≡ fin false m e
-  pattern = of_bits-to_bits binary64 (fin false m e) f
-
-  of_value : (v : ℕ) → HasValue (of_bits binary64 (to_bits binary64 (fin false m e))) false v (2 ^ 1074) → m * up e * 2 ^ 1074 ≡ v * down e
-  of_value v h = (subst (λ (x : Float). HasValue x false v (2 ^ 1074)) pattern h).1
-
-  below_half : (v : ℕ) → m * up e * 2 ^ 1074 ≡ v * down e → v * 2 < 2 ^ 1074 → m * up e * 2 < down e
-  below_half v h g =
-      lt_of_mul-lt-mul_right (2 ^ 1074)
-      (lt_of_le_of_lt (le_of_eq (mul_right_comm (m * up e) 2 (2 ^ 1074) ∙ ap (λ (y : ℕ). y * 2) h ∙ mul_right_comm v (down e) 2))
-      (lt_of_lt_of_le (mul-lt-mul_of_pos_right g (down_pos e)) (le_of_eq (mul_comm (2 ^ 1074) (down e)))))
-
-  few : (k r : ℕ) → k ≤ 1020 → r < 2 ^ 53 → r * 2 ^ k * 2 < 2 ^ 1074
-  few k r h g =
-      lt_of_lt_of_le (mul-lt-mul_of_pos_right (mul-lt-mul_of_pos_right g (pow_pos k)) (zero-lt-suc 1))
-      (le_trans (mul-le-mul_right 2 (le_trans (le_of_eq (sym (pow-add 2 53 k))) (pow_mono {i = 53 + k} {j = 1073} (omega arith)))) (le_of_eq refl))
-
-  -- a normal number: its digits, with k places after them
-  normal : (to_bits binary64 (fin false m e) / 2 ^ 52 ≡ 0 → ⊥)
-      → (k : ℕ) × (to_bits binary64 (fin false m e) / 2 ^ 52 ≡ suc k) × (m * up e * 2 ^ 1074 ≡ (to_bits binary64 (fin false m e) % 2 ^ 52 + 2 ^ 52) * 2 ^ k * down e)
-  normal n =
-      let c = to_bits binary64 (fin false m e) in
-      let s = shape c (bits_lt m e f) n in
-      let r = c % 2 ^ 52 + 2 ^ 52 in
-      let v : HasValue (of_bits binary64 c) false (r * 2 ^ s.0) (2 ^ 1074) = subst (λ (y : ℕ). HasValue (of_bits binary64 y) false (r * 2 ^ s.0) (2 ^ 1074)) (sym s.3) (read_suc s.0 r s.2 (omega arith) (omega arith)) in
-      (s.0, s.1, of_value (r * 2 ^ s.0) v)
-
-  pub small_whole : to_bits binary64 (fin false m e) / 2 ^ 52 < 1022 → closest (m * up e) (down e) ≡ 0
-  small_whole h = go (to_bits binary64 (fin false m e) / 2 ^ 52) refl
-    where
-      go : (q : ℕ) → to_bits binary64 (fin false m e) / 2 ^ 52 ≡ q → closest (m * up e) (down e) ≡ 0
-      go zero z =
-          let l : to_bits binary64 (fin false m e) < 2 ^ 52 = omega arith in
-          half_0 (m * up e) (down e) (down_pos e)
-          (below_half (to_bits binary64 (fin false m e)) (of_value (to_bits binary64 (fin false m e)) (read_0 (to_bits binary64 (fin false m e)) l))
-          (lt_of_lt_of_le (mul-lt-mul_of_pos_right l (zero-lt-suc 1)) (pow_mono {i = 53} {j = 1074} (omega arith))))
-      go (suc q) z =
-          let s = normal (λ y. absurd (omega arith)) in
-          let r = to_bits binary64 (fin false m e) % 2 ^ 52 + 2 ^ 52 in
-          half_0 (m * up e) (down e) (down_pos e) (below_half (r * 2 ^ s.0) s.2 (few s.0 r (omega (arith, s.1)) (omega arith)))
-
-  -- from a half on, and no more than 1010
-  module _ (t : m * up e ≤ 1010 * down e) (l : 1022 ≤ to_bits binary64 (fin false m e) / 2 ^ 52) where
-    large : (k : ℕ) × (to_bits binary64 (fin false m e) / 2 ^ 52 ≡ suc k) × (m * up e * 2 ^ 1074 ≡ (to_bits binary64 (fin false m e) % 2 ^ 52 + 2 ^ 52) * 2 ^ k * down e)
-    large = normal (λ y. absurd (omega arith))
-
-    bound : (k r : ℕ) → 2 ^ 52 ≤ r → m * up e * 2 ^ 1074 ≡ r * 2 ^ k * down e → k < 1032
-    bound k r g h =
-        let a : r * 2 ^ k ≤ 1010 * 2 ^ 1074 = le_of_mul-le-mul_right {n = 1010 * 2 ^ 1074} (le_trans (le_of_eq (sym h)) (le_trans (mul-le-mul_right (2 ^ 1074) t) (le_of_eq (mul_right_comm 1010 (down e) (2 ^ 1074))))) (down_pos e) in
-        let b : 2 ^ (52 + k) ≤ 1010 * 2 ^ 1074 = le_trans (le_of_eq (pow-add 2 52 k)) (le_trans (mul-le-mul_right (2 ^ k) g) a) in
-        lt_of_not-le (λ (x : 1032 ≤ k). not-le_of_lt (lt_of_lt_of_le (lit< {m = 1010 * 2 ^ 1074} {n = 2 ^ 1084} tt) (pow_mono {i = 1084} {j = 52 + k} (omega arith))) b)
-
-    pub field_le : to_bits binary64 (fin false m e) / 2 ^ 52 ≤ 1032
-    field_le = let z = large in let g = bound z.0 (to_bits binary64 (fin false m e) % 2 ^ 52 + 2 ^ 52) (omega arith) z.2 in omega (arith, z.1)
-
-    pub large_whole : closest (m * up e) (down e) ≡ closest (to_bits binary64 (fin false m e) % 2 ^ 52 + 2 ^ 52) (2 ^ (1075 - to_bits binary64 (fin false m e) / 2 ^ 52))
-    large_whole =
-        let c = to_bits binary64 (fin false m e) in
-        let r = c % 2 ^ 52 + 2 ^ 52 in
-        let z = large in
-        let k = z.0 in
-        let p = 1075 - c / 2 ^ 52 in
-        let i : p + k ≡ 1074 = let g = field_le in omega (arith, z.1) in
-        closest_same (m * up e) (down e) r (2 ^ p) (down_pos e) (pow_pos p)
-        (eq_of_mul-eq-mul_right (2 ^ k) (pow_pos k) (m * up e * 2 ^ p) (r * down e)
-        (mul_assoc (m * up e) (2 ^ p) (2 ^ k) ∙ ap (λ (y : ℕ). m * up e * y) (sym (pow-add 2 p k) ∙ ap (λ (y : ℕ). 2 ^ y) i) ∙ z.2 ∙ mul_right_comm r (2 ^ k) (down e)))
-
--- ---- the same of q, whatever its sign; b is its pattern without the sign
-pub no_nan : (q : Float) → T (at_most1010 q) → T (not (is_nan q))
-unfolding is_nan
-no_nan nan t = absurd t
-no_nan (inf s) t = absurd t
-no_nan (fin s m e) t = tt
-
-pub q_low : (q : Float) → T (fits binary64 q) → T (at_most1010 q) → to_bits binary64 q % 0x8000_0000_0000_0000 / 2 ^ 52 < 1022 → 0 ≡ whole_size q
-q_low nan f t h = absurd t
-q_low (inf s) f t h = absurd t
-q_low (fin s m e) f t h = sym (small_whole m e (fits_size s m e f) (subst (λ (b : ℕ). b / 2 ^ 52 < 1022) (size_bits s m e f) h))
-
-pub q_field : (q : Float) → T (fits binary64 q) → T (at_most1010 q) → 1022 ≤ to_bits binary64 q % 0x8000_0000_0000_0000 / 2 ^ 52 → to_bits binary64 q % 0x8000_0000_0000_0000 / 2 ^ 52 ≤ 1032
-q_field nan f t h = absurd t
-q_field (inf s) f t h = absurd t
-q_field (fin s m e) f t h =
-    subst (λ (b : ℕ). b / 2 ^ 52 ≤ 1032) (sym (size_bits s m e f))
-    (field_le m e (fits_size s m e f) (leb→le (m * up e) (1010 * down e) t) (subst (λ (b : ℕ). 1022 ≤ b / 2 ^ 52) (size_bits s m e f) h))
-
-pub q_whole : (q : Float) → T (fits binary64 q) → T (at_most1010 q) → 1022 ≤ to_bits binary64 q % 0x8000_0000_0000_0000 / 2 ^ 52
-    → whole_size q ≡ closest (to_bits binary64 q % 0x8000_0000_0000_0000 % 2 ^ 52 + 2 ^ 52) (2 ^ (1075 - to_bits binary64 q % 0x8000_0000_0000_0000 / 2 ^ 52))
-q_whole nan f t h = absurd t
-q_whole (inf s) f t h = absurd t
-q_whole (fin s m e) f t h =
-    subst (λ (b : ℕ). closest (m * up e) (down e) ≡ closest (b % 2 ^ 52 + 2 ^ 52) (2 ^ (1075 - b / 2 ^ 52))) (sym (size_bits s m e f))
-    (large_whole m e (fits_size s m e f) (leb→le (m * up e) (1010 * down e) t) (subst (λ (b : ℕ). 1022 ≤ b / 2 ^ 52) (size_bits s m e f) h))
+pub rounded : (q r : Float) → T (at_most1010 q) → r ≡ float_with_sign false q → round_ties_even binary64 r ≡ of_int binary64 (pos (whole_size q))
+unfolding round_with float_with_sign of_int
+rounded nan r t e = absurd t
+rounded (inf s) r t e = absurd t
+rounded (fin s m e) r t h = rw h
 
 pub whole_le : (q : Float) → T (at_most1010 q) → whole_size q ≤ 1010
 whole_le nan t = absurd t
 whole_le (inf s) t = absurd t
 whole_le (fin s m e) t = closest_mono (m * up e) (down e) 1010 1 (down_pos e) (zero-lt-suc 0) (le_trans (le_of_eq (mul-one (m * up e))) (leb→le (m * up e) (1010 * down e) t))
 
--- the code's `one`
-pub one_is : (p : ℕ) → p ≤ 53 → 1 * 2 ^ p % 2 ^ 64 ≡ 2 ^ p
-one_is p h = ap (λ (y : ℕ). y % 2 ^ 64) (one-mul (2 ^ p)) ∙ mod-eq_of_lt (pow-lt {i = p} {j = 64} (omega arith))
+pub cast : (n : ℕ) (r : Float) → n ≤ 1010 → r ≡ of_int binary64 (pos n) → T (in_signed binary64 63 r) × (to_signed 63 r ≡ pos n)
+unfolding in_float
+cast n r l e = rw e (positive_back binary64 63 n (le→leb n (2 ^ 53) (omega arith)) (omega arith))
 
-pub quotient_le : (d b : ℕ) → 0 < b → d / b ≤ d
-quotient_le d b h = le_trans (le_of_eq (sym (mul-one (d / b)))) (le_trans (mul-le-mul_left (d / b) h) (div-mul-le_self d b))
+zero_less : (n : ℕ) → pos 0 -ℤ pos n ≡ neg_ℤ (pos n)
+zero_less zero = refl
+zero_less (suc n) = rw (lt-ltb 0 (suc n) (omega arith)) (ap negsuc (omega arith))
+
+small_fits : (n : ℕ) → n ≤ 1010 → SFits w64 (pos n)
+small_fits n l = record { sfits = omega arith }
+
+turned_fits : (n : ℕ) → n ≤ 1010 → SFits w64 (neg_ℤ (pos n))
+turned_fits zero l = record { sfits = omega arith }
+turned_fits (suc n) l = record { sfits = omega arith }
+
+turned_size : (n : ℕ) → nat_abs (neg_ℤ (pos n)) ≡ n
+turned_size zero = refl
+turned_size (suc n) = refl
+
+pub crosses : (k : ℤ) → nat_abs k ≤ 1010 → to_z w64 (of_z w64 k) ≡ k
+crosses (pos n) l = to_z-of_z w64 (pos n) (small_fits n l)
+crosses (negsuc i) l = to_z-of_z w64 (negsuc i) (turned_fits (suc i) l)
+
+-- z as it was cast, and 0 - z
+module _ (n : ℕ) (z : ℤ) (l : n ≤ 1010) (e : z ≡ pos n) where
+  pub back : to_z w64 (of_z w64 z) ≡ pos n
+  back = rw e (to_z-of_z w64 (pos n) (small_fits n l))
+
+  pub less_fits : SFits w64 (pos 0 -ℤ to_z w64 (of_z w64 z))
+  less_fits = rw (back, zero_less n) (turned_fits n l)
+
+  pub less_back : to_z w64 (of_z w64 (pos 0 -ℤ to_z w64 (of_z w64 z))) ≡ neg_ℤ (pos n)
+  less_back = rw (back, zero_less n) (to_z-of_z w64 (neg_ℤ (pos n)) (turned_fits n l))
+
+  pub less_small : nat_abs (to_z w64 (of_z w64 (pos 0 -ℤ to_z w64 (of_z w64 z)))) ≤ 1010
+  less_small = rw (less_back, turned_size n) l
 
 -- ---- the range: x from -700 to 700
 l_is : L ≡ fin false 6243314768165359 (negsuc 52)
@@ -259,7 +153,7 @@ small_is_finite (fin s m e) t = refl
 
 -- ---- k with its sign
 nothing : (e : ℤ) → closest (zero * up e) (down e) ≡ 0
-nothing e = half_0 (zero * up e) (down e) (down_pos e) (subst (λ (y : ℕ). y * 2 < down e) (sym (zero-mul (up e))) (down_pos e))
+nothing e = closest_same (zero * up e) (down e) 0 1 (down_pos e) (zero-lt-suc 0) (omega (arith, zero-mul (up e)))
 
 pub signed_whole : (q : Float) → finite q ≡ true → with_sign (lt q (fin false 0 (pos 0))) (whole_size q) ≡ nearest_whole q
 unfolding nearest_whole lt
@@ -311,6 +205,31 @@ two_down i h =
     back : (i : ℕ) → i < 1010 → 1022 - suc i + suc i ≡ 1022
     back i h = omega arith
 
+-- the exponent's field of 2^k
+abbrev field : ℤ → ℕ
+field (pos n) = 1023 + n
+field (negsuc i) = 1023 - suc i
+
+raised : (k : ℤ) → nat_abs k ≤ 1010 → SFits w64 k → to_z w64 (of_z w64 (pos 1023 +ℤ to_z w64 (of_z w64 k))) ≡ pos (field k)
+raised (pos n) l f = rw (to_z-of_z w64 (pos n) f) (to_z-of_z w64 (pos (1023 + n)) (record { sfits = omega arith }))
+raised (negsuc i) l f =
+    rw (to_z-of_z w64 (negsuc i) f, le-ltb 1023 (suc i) (omega arith)) (to_z-of_z w64 (pos (1023 - suc i)) (record { sfits = omega arith }))
+
+of_field : (k : ℤ) → nat_abs k ≤ 1010 → of_bits binary64 (field k * 2 ^ 52) ≡ fin false 1 k
+of_field (pos n) l = two_up n l
+of_field (negsuc i) l = two_down i (omega arith)
+
+field_small : (k : ℤ) → nat_abs k ≤ 1010 → field k < 2047
+field_small (pos n) l = omega arith
+field_small (negsuc i) l = omega arith
+
+module _ (k : ℤ) (l : nat_abs k ≤ 1010) (f : SFits w64 k) where
+  pub two_of : of_bits binary64 (nat_abs (to_z w64 (of_z w64 (pos 1023 +ℤ to_z w64 (of_z w64 k)))) * 2 ^ 52) ≡ fin false 1 k
+  two_of = rw (raised k l f) (of_field k l)
+
+  pub no_nan_of : T (not (nan_bits binary64 (nat_abs (to_z w64 (of_z w64 (pos 1023 +ℤ to_z w64 (of_z w64 k)))) * 2 ^ 52)))
+  no_nan_of = rw (raised k l f) (no_nan_bits (field k * 2 ^ 52) (let h = field_small k l in omega arith))
+
 -- ---- the checks come to one at the end: the proof has the shape of the steps
 
 one_finite : finite (float 1) ≡ true
@@ -325,13 +244,3 @@ exp_check x f =
     let r = raw_sub_from x (raw_first (mul binary64) (of_int binary64 k) L) in
     let s = raw_fold (λ _ _ j p. raw_add_from (float 1) (raw_by (float j) (r *ʳ p))) (raw_value (float 1) one_finite) from14 in
     rw (check_kept (div binary64 x L) (small_is_finite (div binary64 x L) (quotient_small x f))) (raw_times (two_to k) s).is
-
--- ---- by sign
-pub minus_number : (n : ℕ) → (n ≡ 0 → ⊥) → neg (of_int binary64 (pos n)) ≡ of_int binary64 (neg_ℤ (pos n))
-unfolding of_int
-minus_number zero h = absurd (h refl)
-minus_number (suc i) h = round_neg binary64 false (suc i) 1
-
-pub two_neg : (n : ℕ) → n ≤ 1010 → of_bits binary64 ((1023 - n) * 2 ^ 52) ≡ fin false 1 (neg_ℤ (pos n))
-two_neg zero h = two_up 0 h
-two_neg (suc i) h = two_down i h

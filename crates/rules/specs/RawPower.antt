@@ -9,6 +9,11 @@ use Rattle.sizes.specs.Lost.{looked}
 use Rattle.rules.specs.Power.{one, odd, bits}
 use Rattle.rules.specs.Product.{taken, times}
 
+-- r as it is, or looked at
+abbrev pub kept : Bool → Float → Float → Float
+kept false a = λ r. r
+kept true a = looked a
+
 unfoldable pub over_bits : (Float → Float) → Float → Float → List Bool → Float
 over_bits f r x [] = r
 over_bits f r x (bit ∷ higher) = over_bits f (taken f bit r x) (mul binary64 x x) higher
@@ -36,6 +41,9 @@ raw_by_sign = by_sign_of (λ r. r)
 unfoldable pub raw_power : Float → ℤ → Float
 raw_power a n = raw_by_sign n (raw_by_bits 31 one a (nat_abs n))
 
+abbrev pub power_by_bits : Bool → Float → ℤ → Float
+power_by_bits l a n = by_sign_of (kept l a) n (over_bits (kept l a) one a (bits (nat_abs n)))
+
 unfoldable pub looked_power : Float → ℤ → Float
 unfolding over_bits
-looked_power a n = by_sign_of (looked a) n (over_bits (looked a) one a (bits (nat_abs n)))
+looked_power = power_by_bits true

@@ -7,4 +7,4 @@ mod exp;
 mod powi;
 
 pub use exp::{exponential, raw_exponential};
-pub use powi::{bare_power, magnitude, power, raw_power};
+pub use powi::{bare_power, power, raw_power};

@@ -1,81 +1,69 @@
 // a^n by the bits of |n|, the lowest first. At a usual base no r on the way can be lost, and none is looked at; at any other each is.
-ghost use Rattle.std.specs.Prelude.{◌≡◌, ℕ, suc, ◌<◌, ◌^◌, nat_abs};
+ghost use Rattle.std.specs.Prelude.{◌≡◌, ℕ, suc, ◌<◌, ◌^◌};
 ghost use Rattle.common.specs.Outcome.{or_nan};
 ghost use Rattle.common.specs.Answer.{paper};
-ghost use Rattle.sizes.specs.Lost.{looked};
 ghost use Rattle.rules.specs.Power.{lowest, power_rule};
-ghost use Rattle.rules.specs.RawPower.{over_bits, raw_power, looked_power};
+ghost use Rattle.rules.specs.RawPower.{kept, over_bits, power_by_bits, raw_power};
 
-use common::{Answer, Refusal, is_finite, or_nan, settle};
+use common::{Refusal, is_finite, or_nan, settle};
 use sizes::{look, usual};
 
-pub fn magnitude(n: i32) -> u32
-    ensures { result ≡ nat_abs n }
+// r on the way to a power of a, looked at where LOOKED.
+fn kept<const LOOKED: bool>(a: f64, r: f64) -> f64
+    ensures { result ≡ kept LOOKED a r }
 {
-    if n < 0 { -(n as i64) as u32 } else { n as u32 }
+    if LOOKED { look(a, r) } else { r }
 }
 
-// r times a to the n: where n's lowest bit is set r becomes r*a, and while higher bits remain a becomes a*a.
-fn by_bits(r: f64, a: f64, n: u32) -> f64
-    ensures { (k : ℕ) → n < 2 ^ suc k → result ≡ over_bits (λ r. r) r a (lowest (suc k) n) }
+// r times x to the n, for a power of a: where n's lowest bit is set r becomes r*x, and while higher bits remain x becomes x*x.
+fn by_bits<const LOOKED: bool>(a: f64, r: f64, x: f64, n: u32) -> f64
+    ensures { (k : ℕ) → n < 2 ^ suc k → result ≡ over_bits (kept LOOKED a) r x (lowest (suc k) n) }
 {
-    let s = if n % 2 == 1 { r * a } else { r };
+    let s = if n % 2 == 1 {
+        kept::<LOOKED>(a, r * x)
+    } else {
+        r
+    };
     let h = n / 2;
-    if h == 0 { s } else { by_bits(s, a * a, h) }
+    if h == 0 {
+        s
+    } else {
+        by_bits::<LOOKED>(a, s, x * x, h)
+    }
+}
+
+fn power_by_bits<const LOOKED: bool>(a: f64, n: i32) -> f64
+    ensures { result ≡ power_by_bits LOOKED a n }
+{
+    let r = by_bits::<LOOKED>(a, 1.0, a, n.unsigned_abs());
+    if n < 0 && is_finite(r) {
+        kept::<LOOKED>(a, 1.0 / r)
+    } else {
+        r
+    }
 }
 
 // The power with no look at any r: the rule's where the base is usual.
 pub fn bare_power(a: f64, n: i32) -> f64
     ensures { result ≡ raw_power a n }
 {
-    let r = by_bits(1.0, a, magnitude(n));
-    if n < 0 {
-        if is_finite(r) { 1.0 / r } else { r }
-    } else {
-        r
-    }
+    power_by_bits::<false>(a, n)
 }
 
-// As `by_bits`, from r and x on, and with a look at each r.
-fn looked_bits(a: f64, r: f64, x: f64, n: u32) -> f64
-    ensures { (k : ℕ) → n < 2 ^ suc k → result ≡ over_bits (looked a) r x (lowest (suc k) n) }
-{
-    let s = if n % 2 == 1 { look(a, r * x) } else { r };
-    let h = n / 2;
-    if h == 0 {
-        s
-    } else {
-        looked_bits(a, s, x * x, h)
-    }
-}
-
-fn looked_power(a: f64, n: i32) -> f64
-    ensures { result ≡ looked_power a n }
-{
-    let r = looked_bits(a, 1.0, a, magnitude(n));
-    if n < 0 {
-        if is_finite(r) { look(a, 1.0 / r) } else { r }
-    } else {
-        r
-    }
-}
-
-pub fn power(a: f64, n: i32) -> Answer
+pub fn power(a: f64, n: i32) -> Result<f64, Refusal>
     ensures { paper result ≡ power_rule a n }
 {
-    if magnitude(n) <= 64 {
-        if usual(a) {
-            return settle(bare_power(a, n));
-        }
-        if is_finite(a) {
-            return settle(looked_power(a, n));
-        }
-        return Answer::Refused(Refusal::NotFinite);
+    let taken = n.unsigned_abs() <= 64;
+    if taken && usual(a) {
+        return settle(bare_power(a, n));
     }
-    if is_finite(a) {
-        return Answer::Refused(Refusal::Second);
+    if !is_finite(a) {
+        return Err(Refusal::NotFinite);
     }
-    Answer::Refused(Refusal::NotFinite)
+    if !taken {
+        return Err(Refusal::Second);
+    }
+    settle(power_by_bits::<true>(a, n))
 }
 
 // For the layers above: the power, or a NaN where it is refused.

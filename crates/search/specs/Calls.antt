@@ -6,12 +6,12 @@ use Rattle.common.specs.Outcome.{Outcome, value, refused, finite, then}
 use Rattle.common.specs.Decimal.{whole}
 use Rattle.common.specs.Constant.{p_range_from, p_range_to, t_range_from, t_range_to, d_range_from, d_range_to, h_range_from, h_range_to, s_range_from, s_range_to}
 use Rattle.common.specs.Range.{within, pair_rule}
-use Rattle.common.specs.Answer.{paper_verdict}
+use Rattle.common.specs.Answer.{paper}
 use Rattle.record.specs.Record.{zero_record}
 use Rattle.record.specs.declared.Record.{Record}
 use Rattle.td_record.specs.Steps.{record_steps}
 use Rattle.td_record.specs.declared.Pressure.TheVariants.{Worked}
-use Rattle.secant.specs.Secant.{Proposal}
+use Rattle.secant.specs.declared.Proposal.{Proposal}
 use Rattle.secant.specs.declared.Curve.TheVariants.{Isochore, Enthalpy, Entropy}
 use Rattle.place.specs.AcceptedPlace.{found_on}
 use Rattle.search.specs.declared.SearchedRecord.{SearchedRecord}
@@ -60,11 +60,11 @@ record_on t d = record_steps t d (div binary64 (whole 1) d) Worked
 
 -- on an isotherm, at the d that was found
 abbrev pub record_along : Float → Proposal → Outcome Searched
-record_along t q = record_found (record_on t q.x) q.trials
+record_along t q = record_found (record_on t q.place) q.trials
 
 unfoldable pub pv_rule : Float → Float → Outcome Searched
 unfolding pv2T_reg3_rule
-pv_rule p v = then (pv2T_reg3_rule p v) (λ q. record_found (record_on q.x (density_by v)) q.trials)
+pv_rule p v = then (pv2T_reg3_rule p v) (λ q. record_found (record_on q.place (density_by v)) q.trials)
 
 unfoldable pub Th_rule : Float → Float → Outcome Searched
 unfolding Th2d_reg3_rule
@@ -86,7 +86,7 @@ report_searched (value a) = record { verdict = value tt; state = a.state; trials
 report_searched (refused k) = record { verdict = refused k; state = zero_record; trials = 0 }
 
 abbrev pub paper_searched : SearchedRecord → SearchedReport
-paper_searched a = record { verdict = paper_verdict a.verdict; state = a.record; trials = a.trials }
+paper_searched a = record { verdict = paper a.verdict; state = a.record; trials = a.trials }
 
 -- ---- Helps proofs only: an answer for a record, with the trials that led to it
 

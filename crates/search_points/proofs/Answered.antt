@@ -6,8 +6,8 @@ use Rattle.record.specs.declared.Record.{Record}
 use Rattle.properties.specs.Td.{Td2h, Td2s, Td2u, Td2cv, Td2cp, Td2w, state_pressure}
 use Rattle.td_record.specs.Steps.{record_steps, record_after}
 use Rattle.td_record.specs.declared.Pressure.TheVariants.{Worked}
-use Rattle.secant.specs.Secant.{Proposal}
 use Rattle.secant.specs.declared.Curve.TheVariants.{Isochore, Enthalpy, Entropy}
+use Rattle.secant.specs.declared.Proposal.{Proposal}
 use Rattle.common.proofs.Calls.{went_on}
 use Rattle.checks.proofs.Promise.{Within, p_within, h_within, s_within}
 use Rattle.search_points.proofs.Trials.{found_accepted, passed}
@@ -15,26 +15,26 @@ use Rattle.search.specs.Calls.{density_by, pv_box, Th_box, Ts_box, pv2T_reg3_rul
 
 -- ---- T or d: the check at the place that is answered
 
-pub T_within : (p v : Float) (q : Proposal) → pv2T_reg3_rule p v ≡ value q → Within (state_pressure (check q.x) (check (density_by v))) p
+pub T_within : (p v : Float) (q : Proposal) → pv2T_reg3_rule p v ≡ value q → Within (state_pressure (check q.place) (check (density_by v))) p
 unfolding pv2T_reg3_rule
 T_within p v q e =
     let curve = Isochore (record { 0 = density_by v }) (record { 0 = p }) in
     went_on (pv_box p v) _ q _ e (λ _ _ k.
-    found_accepted curve q _ k (λ u g. p_within q.x (density_by v) p u (passed curve q.x u g)))
+    found_accepted curve q _ k (λ u g. p_within q.place (density_by v) p u (passed curve q.place u g)))
 
-pub d_within_h : (t h : Float) (q : Proposal) → Th2d_reg3_rule t h ≡ value q → Within (Td2h (check t) (check q.x)) h
+pub d_within_h : (t h : Float) (q : Proposal) → Th2d_reg3_rule t h ≡ value q → Within (Td2h (check t) (check q.place)) h
 unfolding Th2d_reg3_rule
 d_within_h t h q e =
     let curve = Enthalpy (record { 0 = t }) (record { 0 = h }) in
     went_on (Th_box t h) _ q _ e (λ _ _ k.
-    found_accepted curve q _ k (λ u g. h_within t q.x h u (passed curve q.x u g)))
+    found_accepted curve q _ k (λ u g. h_within t q.place h u (passed curve q.place u g)))
 
-pub d_within_s : (t s : Float) (q : Proposal) → Ts2d_reg3_rule t s ≡ value q → Within (Td2s (check t) (check q.x)) s
+pub d_within_s : (t s : Float) (q : Proposal) → Ts2d_reg3_rule t s ≡ value q → Within (Td2s (check t) (check q.place)) s
 unfolding Ts2d_reg3_rule
 d_within_s t s q e =
     let curve = Entropy (record { 0 = t }) (record { 0 = s }) in
     went_on (Ts_box t s) _ q _ e (λ _ _ k.
-    found_accepted curve q _ k (λ u g. s_within t q.x s u (passed curve q.x u g)))
+    found_accepted curve q _ k (λ u g. s_within t q.place s u (passed curve q.place u g)))
 
 -- ---- the records
 
@@ -60,22 +60,22 @@ module _ (a : Searched) where
   unfolding pv_rule
   pv_within p v e =
       went_on (pv2T_reg3_rule p v) _ a _ e (λ q h k.
-      went_on (record_on q.x (density_by v)) _ a _ k (λ r g l.
+      went_on (record_on q.place (density_by v)) _ a _ k (λ r g l.
       let same : r ≡ a.state = cc in
-      at_state (λ t d. state_pressure (check t) (check d)) p q.x (density_by v) a.state (record_state q.x (density_by v) (density_by (density_by v)) a.state (rw (sym same) g)) (T_within p v q h)))
+      at_state (λ t d. state_pressure (check t) (check d)) p q.place (density_by v) a.state (record_state q.place (density_by v) (density_by (density_by v)) a.state (rw (sym same) g)) (T_within p v q h)))
 
   pub Th_within : (t h : Float) → Th_rule t h ≡ value a → Within (Td2h (check a.state.T) (check a.state.d)) h
   unfolding Th_rule
   Th_within t h e =
       went_on (Th2d_reg3_rule t h) _ a _ e (λ q f k.
-      went_on (record_on t q.x) _ a _ k (λ r g l.
+      went_on (record_on t q.place) _ a _ k (λ r g l.
       let same : r ≡ a.state = cc in
-      at_state (λ t d. Td2h (check t) (check d)) h t q.x a.state (record_state t q.x (density_by q.x) a.state (rw (sym same) g)) (d_within_h t h q f)))
+      at_state (λ t d. Td2h (check t) (check d)) h t q.place a.state (record_state t q.place (density_by q.place) a.state (rw (sym same) g)) (d_within_h t h q f)))
 
   pub Ts_within : (t s : Float) → Ts_rule t s ≡ value a → Within (Td2s (check a.state.T) (check a.state.d)) s
   unfolding Ts_rule
   Ts_within t s e =
       went_on (Ts2d_reg3_rule t s) _ a _ e (λ q f k.
-      went_on (record_on t q.x) _ a _ k (λ r g l.
+      went_on (record_on t q.place) _ a _ k (λ r g l.
       let same : r ≡ a.state = cc in
-      at_state (λ t d. Td2s (check t) (check d)) s t q.x a.state (record_state t q.x (density_by q.x) a.state (rw (sym same) g)) (d_within_s t s q f)))
+      at_state (λ t d. Td2s (check t) (check d)) s t q.place a.state (record_state t q.place (density_by q.place) a.state (rw (sym same) g)) (d_within_s t s q f)))

@@ -26,7 +26,8 @@ use Rattle.border.specs.Border.{B23_T2p, B23_p2T}
 use Rattle.printed.specs.Table30.{table30}
 use Rattle.helmholtz.specs.Hfe.{slope, phi, phi_delta, phi_deltadelta, share, joint_phi, joint_delta, four_delta, four_deltadelta}
 use Rattle.properties.specs.Td.{Td2v, Td2p, Td2h, Td2s, Td2u, Td2cv, Td2cp, Td2w, state_pressure}
-use Rattle.secant.specs.Secant.{Proposal, missing_at, opened_by, start_of, trial_by, turn_of, trials_from, proposal_from, proposal_rule}
+use Rattle.secant.specs.Secant.{missing_at, opened_by, start_of, trial_by, turn_of, trials_from, proposal_from, proposal_rule}
+use Rattle.secant.specs.declared.Proposal.{Proposal}
 use Rattle.checks.specs.Checks.{held_to, check_p_rule, check_h_rule, check_s_rule}
 use Rattle.place.specs.AcceptedPlace.{density_at, densities_at, starts_of, proposed_for, accepted_at, found_on}
 use Rattle.td_record.specs.Steps.{record_steps, record_after}
@@ -37,7 +38,7 @@ no_trial (value q) = eqb q.trials 0
 no_trial (refused k) = false
 
 abbrev is_found : Float → ℕ → Outcome Proposal → Bool
-is_found x n (value q) = eqb q.trials n && (le q.x x && le x q.x)
+is_found x n (value q) = eqb q.trials n && (le q.place x && le x q.place)
 is_found x n (refused k) = false
 
 -- as much is missing at both start points, of which the one at 100 MPa is the newer: with the other 7 trials lead to 343.7993402271357

@@ -56,8 +56,8 @@ module _ (a : Searched) where
       went_on (pv2T_reg3_rule p v) _ a _ e (λ q h k.
       went_on (pv_box p v) _ q _ h (λ _ _ f.
       found_accepted curve q _ f (λ u g.
-      went_on (asked_box q.x (density_by v) p) _ u _ (passed curve q.x u g) (λ w box _.
-      at_its_state q.x (density_by v) q.trials w (in_box q.x (density_by v) p w box) k))))
+      went_on (asked_box q.place (density_by v) p) _ u _ (passed curve q.place u g) (λ w box _.
+      at_its_state q.place (density_by v) q.trials w (in_box q.place (density_by v) p w box) k))))
 
   pub Th_record : (t h : Float) → Th_rule t h ≡ value a → record_rule a.state.T a.state.d ≡ value a.state
   unfolding Th_rule Th2d_reg3_rule check_h_rule
@@ -66,8 +66,8 @@ module _ (a : Searched) where
       went_on (Th2d_reg3_rule t h) _ a _ e (λ q i k.
       went_on (Th_box t h) _ q _ i (λ _ _ f.
       found_accepted curve q _ f (λ u g.
-      went_on (asked_box t q.x h) _ u _ (passed curve q.x u g) (λ w box _.
-      at_its_state t q.x q.trials w (in_box t q.x h w box) k))))
+      went_on (asked_box t q.place h) _ u _ (passed curve q.place u g) (λ w box _.
+      at_its_state t q.place q.trials w (in_box t q.place h w box) k))))
 
   pub Ts_record : (t s : Float) → Ts_rule t s ≡ value a → record_rule a.state.T a.state.d ≡ value a.state
   unfolding Ts_rule Ts2d_reg3_rule check_s_rule
@@ -76,5 +76,5 @@ module _ (a : Searched) where
       went_on (Ts2d_reg3_rule t s) _ a _ e (λ q i k.
       went_on (Ts_box t s) _ q _ i (λ _ _ f.
       found_accepted curve q _ f (λ u g.
-      went_on (asked_box t q.x s) _ u _ (passed curve q.x u g) (λ w box _.
-      at_its_state t q.x q.trials w (in_box t q.x s w box) k))))
+      went_on (asked_box t q.place s) _ u _ (passed curve q.place u g) (λ w box _.
+      at_its_state t q.place q.trials w (in_box t q.place s w box) k))))

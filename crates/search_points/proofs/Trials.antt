@@ -7,29 +7,32 @@ use mathlib.Core.Bool.{Bool, true, false, cond}
 use mathlib.Core.List.{List, [], ◌∷◌}
 use lib.ListN.{length}
 use lib.Ieee.{Float}
+use Rattle.std.specs.Prelude.{Option, None, Some}
 use Rattle.common.specs.Outcome.{value, refused}
-use Rattle.secant.specs.Secant.{max_iter, start_of, Next, ended, tried, turn_of, after_turn, trials_from, last_or, Proposal, proposal_from, proposal_rule}
+use Rattle.secant.specs.Secant.{max_iter, start_of, turn_of, after_turn, trials_from, last_or, proposal_from, proposal_rule}
+use Rattle.secant.specs.declared.Proposal.{Proposal}
 use Rattle.secant.specs.declared.Curve.{Curve}
 use Rattle.secant.specs.declared.Secant.{Secant}
 use Rattle.common.proofs.Calls.{went_on, no_value}
-use Rattle.place.specs.AcceptedPlace.{Starts, starts_of, proposed_for, in_range, check_on, accepted_at, found_on}
+use Rattle.place.specs.AcceptedPlace.{starts_of, proposed_for, in_range, check_on, accepted_at, found_on}
 
 -- the place and the count of a search, by its start points and its list of trials
 pub record Trials (curve : Curve) (q : Proposal) : Type 0 where
-  pub ends : Starts
-  pub are_ends : starts_of curve ≡ value ends
+  pub first : Float
+  pub second : Float
+  pub are_ends : starts_of curve ≡ value (record { first = first; second = second })
   pub start : Secant
-  pub begun : start_of curve ends.first ends.second ≡ value start
+  pub begun : start_of curve first second ≡ value start
   pub places : List Float
   pub are : trials_from curve max_iter start ≡ value places
-  pub last : q.x ≡ last_or start.x places
+  pub last : q.place ≡ last_or start.x places
   pub count : q.trials ≡ length places
   pub most : length places ≤ max_iter
 
 module _ (curve : Curve) where
-  after : (n : ℕ) (next : Next) (xs : List Float) → ((s : Secant) (ys : List Float) → trials_from curve n s ≡ value ys → length ys ≤ n) → after_turn next (trials_from curve n) ≡ value xs → length xs ≤ suc n
-  after n ended xs h e = let nil : xs ≡ [] = cc in rw nil (omega arith)
-  after n (tried s) xs h e =
+  after : (n : ℕ) (next : Option Secant) (xs : List Float) → ((s : Secant) (ys : List Float) → trials_from curve n s ≡ value ys → length ys ≤ n) → after_turn next (trials_from curve n) ≡ value xs → length xs ≤ suc n
+  after n None xs h e = let nil : xs ≡ [] = cc in rw nil (omega arith)
+  after n (Some s) xs h e =
       went_on (trials_from curve n s) _ xs _ e (λ ys k g.
       let l = h s ys k in
       let longer : xs ≡ s.x ∷ ys = cc in
@@ -45,28 +48,29 @@ module _ (curve : Curve) where
   unfolding found_on proposed_for proposal_rule proposal_from
   found_trials q e =
       went_on (proposed_for curve) _ q _ e (λ q₁ h k.
-      went_on (accepted_at curve q₁.x) _ q _ k (λ _ _ g.
+      went_on (accepted_at curve q₁.place) _ q _ k (λ _ _ g.
       went_on (starts_of curve) _ q₁ _ h (λ ends a h₁.
       went_on (start_of curve ends.first ends.second) _ q₁ _ h₁ (λ start b h₂.
       went_on (trials_from curve max_iter start) _ q₁ _ h₂ (λ xs c h₃.
-      let made : ◌≡◌ {A = Proposal} q (record { x = last_or start.x xs; trials = length xs }) = cc in
+      let made : ◌≡◌ {A = Proposal} q (record { place = last_or start.x xs; trials = length xs }) = cc in
       record {
-        ends = ends;
+        first = ends.first;
+        second = ends.second;
         are_ends = a;
         start = start;
         begun = b;
         places = xs;
         are = c;
-        last = ap (λ (z : Proposal). z.x) made;
+        last = ap (λ (z : Proposal). z.place) made;
         count = ap (λ (z : Proposal). z.trials) made;
         most = bounded max_iter start xs c;
       })))))
 
-  pub found_accepted : (q : Proposal) (C : Type 0) → found_on curve ≡ value q → ((u : Unit) → accepted_at curve q.x ≡ value u → C) → C
+  pub found_accepted : (q : Proposal) (C : Type 0) → found_on curve ≡ value q → ((u : Unit) → accepted_at curve q.place ≡ value u → C) → C
   unfolding found_on
   found_accepted q C e f =
       went_on (proposed_for curve) _ q _ e (λ q₁ h k.
-      went_on (accepted_at curve q₁.x) _ q _ k (λ u g l.
+      went_on (accepted_at curve q₁.place) _ q _ k (λ u g l.
       let same : q ≡ q₁ = cc in
       f u (rw same g)))
 

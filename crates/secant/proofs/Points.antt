@@ -8,15 +8,16 @@ use lib.IntN.{negsuc}
 use lib.Ieee.{fin, round, neg, add, sub, sum, mul, div, le, lt, eq}
 use Rattle.common.specs.Decimal.{decimal, whole, scaled}
 use Rattle.common.specs.Outcome.{value, refused, zero_f}
-use Rattle.secant.specs.Secant.{placed, opened_by, newer_last, lifted_to, ended, turn_of}
+use Rattle.secant.specs.Secant.{placed, opened_by, newer_last, lifted_to, turn_of}
+use Rattle.std.specs.Prelude.{None}
 use Rattle.secant.specs.declared.Curve.{Curve}
 
 -- in turn: as much is missing at both places, after a long step; nothing is missing; the last step was 1e-8; f - fl is lost
 pub turns :
     (curve : Curve)
-    → (turn_of curve (placed (whole 300) (whole 2) (whole 400) (whole 2) (whole 100)) ≡ value ended)
-    × (turn_of curve (placed (whole 300) (whole 2) (whole 400) (neg zero_f) (whole 100)) ≡ value ended)
-    × (turn_of curve (placed (whole 300) (whole 2) (whole 400) (whole 1) (neg (decimal 0_00000001 8))) ≡ value ended)
+    → (turn_of curve (placed (whole 300) (whole 2) (whole 400) (whole 2) (whole 100)) ≡ value None)
+    × (turn_of curve (placed (whole 300) (whole 2) (whole 400) (neg zero_f) (whole 100)) ≡ value None)
+    × (turn_of curve (placed (whole 300) (whole 2) (whole 400) (whole 1) (neg (decimal 0_00000001 8))) ≡ value None)
     × (turn_of curve (placed (whole 300) (neg (whole (10 ^ 308))) (whole 400) (whole (10 ^ 308)) (whole 100)) ≡ refused 5)
 unfolding turn_of decimal whole scaled round neg add sub sum le lt eq
 turns curve = (refl, refl, refl, refl)

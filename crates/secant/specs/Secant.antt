@@ -1,21 +1,15 @@
 -- To believe: the secant search of algo/root.rs (`rtsec`) as the list of its trials, with MAX_ITER 20000 and CONVERGENCE_PRECISION 1e-8. Every operation is a step,
 -- and one that is lost ends the search with 5. Assumes nothing: these are definitions.
-use Rattle.std.specs.Prelude.{ℕ, zero, suc, cond, List, [], ◌∷◌, length, Float}
+use Rattle.std.specs.Prelude.{ℕ, zero, suc, cond, Option, None, Some, List, [], ◌∷◌, length, Float}
 use Rattle.std.specs.Float.Ieee.{lt, le, eq}
-use Rattle.common.specs.Outcome.{Outcome, value, refused, check, then, zero_f}
+use Rattle.common.specs.Outcome.{Outcome, value, check, then, zero_f}
 use Rattle.common.specs.Formula.{◌⊕◌, ◌⊖◌, ◌⊗◌, ◌⊘◌, size_of}
 use Rattle.common.specs.Decimal.{decimal}
-use Rattle.common.specs.Answer.{number_of}
 use Rattle.properties.specs.Td.{Td2p, Td2h, Td2s}
 use Rattle.secant.specs.declared.Curve.{Curve}
 use Rattle.secant.specs.declared.Curve.TheVariants.{Isochore, Enthalpy, Entropy}
 use Rattle.secant.specs.declared.Secant.{Secant}
-use Rattle.secant.specs.declared.SecantAnswer.{SecantAnswer}
-use Rattle.secant.specs.declared.SecantAnswer.TheVariants as secants
-use Rattle.secant.specs.declared.Turn.{Turn}
-use Rattle.secant.specs.declared.Turn.TheVariants as turns
-use Rattle.secant.specs.declared.ProposalAnswer.{ProposalAnswer}
-use Rattle.secant.specs.declared.ProposalAnswer.TheVariants as proposals
+use Rattle.secant.specs.declared.Proposal.{Proposal}
 
 -- ---- the constants
 
@@ -81,26 +75,21 @@ unfoldable pub trial_by : Curve → Secant → Float → Outcome Secant
 unfolding missing_at
 trial_by curve s e = then (step_by s e) (λ dx. then (value s.x ⊕ value dx) (λ x. arrived_at curve s dx (lifted_to x)))
 
--- the search ends, or goes on from another place
-pub data Next : Type 0 where
-  ended : Next
-  tried : Secant → Next
-
--- |dx| > 1e-8 of the last step, f not 0, f - fl not 0: a trial
-unfoldable pub turn_of : Curve → Secant → Outcome Next
+-- |dx| > 1e-8 of the last step, f not 0, f - fl not 0: a trial, and the search goes on from there; otherwise it ends
+unfoldable pub turn_of : Curve → Secant → Outcome (Option Secant)
 unfolding trial_by
 turn_of curve s =
     cond (lt convergence_precision (size_of s.dx))
     (cond (eq s.f zero_f)
-    (value ended)
-    (then (value s.f ⊖ value s.fl) (λ e. cond (eq e zero_f) (value ended) (then (trial_by curve s e) (λ next. value (tried next))))))
-    (value ended)
+    (value None)
+    (then (value s.f ⊖ value s.fl) (λ e. cond (eq e zero_f) (value None) (then (trial_by curve s e) (λ next. value (Some next))))))
+    (value None)
 
 -- ---- the trials, in order: the places at which the property is worked after the start points
 
-abbrev pub after_turn : Next → (Secant → Outcome (List Float)) → Outcome (List Float)
-after_turn ended f = value []
-after_turn (tried s) f = then (f s) (λ xs. value (s.x ∷ xs))
+abbrev pub after_turn : Option Secant → (Secant → Outcome (List Float)) → Outcome (List Float)
+after_turn None f = value []
+after_turn (Some s) f = then (f s) (λ xs. value (s.x ∷ xs))
 
 -- at most so many
 unfoldable pub trials_from : Curve → ℕ → Secant → Outcome (List Float)
@@ -115,29 +104,10 @@ last_or x (y ∷ ys) = last_or y ys
 
 -- ---- the proposal: the last place, and how many trials there were
 
-pub record Proposal : Type 0 where
-  pub x : Float
-  pub trials : ℕ
-
 unfoldable pub proposal_from : Curve → Secant → Outcome Proposal
 unfolding trials_from
-proposal_from curve s = then (trials_from curve max_iter s) (λ xs. value (record { x = last_or s.x xs; trials = length xs }))
+proposal_from curve s = then (trials_from curve max_iter s) (λ xs. value (record { place = last_or s.x xs; trials = length xs }))
 
 unfoldable pub proposal_rule : Curve → Float → Float → Outcome Proposal
 unfolding start_of proposal_from
 proposal_rule curve x1 x2 = then (start_of curve x1 x2) (proposal_from curve)
-
--- ---- what the answers say
-
-abbrev pub paper_secant : SecantAnswer → Outcome Secant
-paper_secant (secants.Value s) = value s
-paper_secant secants.Lost = refused 5
-
-abbrev pub paper_turn : Turn → Outcome Next
-paper_turn turns.Ended = value ended
-paper_turn (turns.Tried s) = value (tried s)
-paper_turn turns.Lost = refused 5
-
-abbrev pub paper_proposal : ProposalAnswer → Outcome Proposal
-paper_proposal (proposals.Value x n) = value (record { x = x; trials = n })
-paper_proposal (proposals.Refused k) = refused (number_of k)

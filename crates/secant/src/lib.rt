@@ -1,19 +1,21 @@
 // The secant search of algo/root.rs, `rtsec`: the place on a curve at which the property has the asked value. What the Rust takes as a function is
 // the curve here. A place is a T or a d by the curve, and a bare number inside this file; who asks gives the two start points under their unit. The order of
 // the steps is in specs/Secant.antt; a step that is lost ends the search with 5.
-#![tactic(auto)]
+#![tactic(auto, using(common::proofs::Calls::passed_on, common::proofs::Calls::went_in))]
 
 ghost use Rattle.std.specs.Prelude.{◌≡◌};
 ghost use Rattle.std.specs.Float.Ieee.{lt};
-ghost use Rattle.common.specs.Formula.{Raw, size_of};
+ghost use Rattle.common.specs.Answer.{paper};
+ghost use Rattle.common.specs.Formula.{size_of};
 ghost use Rattle.secant.specs.declared.Curve.TheVariants.{Isochore, Enthalpy, Entropy};
-ghost use Rattle.secant.specs.Secant.{convergence_precision, missing_at, lifted_to, opened_by, newer_last, start_of, arrived_at, trial_by, turn_of, proposal_from, proposal_rule, paper_secant, paper_turn, paper_proposal};
+ghost use Rattle.secant.specs.Secant.{convergence_precision, missing_at, lifted_to, opened_by, newer_last, start_of, trial_by, turn_of, proposal_from, proposal_rule};
 
-use common::{KJPerKg, KJPerKgK, Kelvin, KgPerM3, MPa, Refusal, is_finite, size};
+use common::{KJPerKg, KJPerKgK, Kelvin, KgPerM3, MPa, Refusal, settle, size};
 use properties::{raw_h, raw_p, raw_s};
 
 // A property along the one of T and d that is searched, at the other, and what is asked of it.
-#[derive(Clone, Copy)]
+// Kept: a closed kind and no `impl Fn`, a rule of the project: what the Rust takes as a function is a choice by kind (decision 39).
+#[derive(Clone, Copy, Debug, PartialEq)]
 pub enum Curve {
     // p over T, at a density
     Isochore(KgPerM3, MPa),
@@ -24,7 +26,8 @@ pub enum Curve {
 }
 
 // The last two places, the older one first, each with what is missing there of the asked value; and the last step.
-#[derive(Clone, Copy)]
+// Kept: five numbers and no pair of places, since they are the Rust's variables.
+#[derive(Clone, Copy, Debug, PartialEq)]
 pub struct Secant {
     pub xl: f64,
     pub fl: f64,
@@ -33,25 +36,11 @@ pub struct Secant {
     pub dx: f64,
 }
 
-#[derive(Clone, Copy)]
-enum SecantAnswer {
-    Value(Secant),
-    Lost,
-}
-
-// Whether the search goes on, and to where.
-#[derive(Clone, Copy)]
-enum Turn {
-    Ended,
-    Tried(Secant),
-    Lost,
-}
-
 // The place that the search proposes, in K or kg/m3, and how many trials it made.
-#[derive(Clone, Copy)]
-pub enum ProposalAnswer {
-    Value(f64, u32),
-    Refused(Refusal),
+#[derive(Clone, Copy, Debug, PartialEq)]
+pub struct Proposal {
+    pub place: f64,
+    pub trials: u32,
 }
 
 // algo/root.rs
@@ -63,16 +52,18 @@ const CONVERGENCE_PRECISION: f64 = 1.0e-8;
 const LIFTED: f64 = 0.000001;
 
 // What is missing at x of what is asked.
-fn missing(curve: Curve, x: f64) -> f64
-    ensures { Raw (missing_at curve x) result }
+#[tactic(auto, using(common::proofs::Formulas::raw_sub_from), unfolding(crate::specs::Secant::missing_at))]
+fn missing(curve: Curve, x: f64) -> Result<f64, Refusal>
+    ensures { paper result ≡ missing_at curve x }
 {
-    match curve {
+    settle(match curve {
         Curve::Isochore(d, p) => p.0 - raw_p(Kelvin(x), d),
         Curve::Enthalpy(t, h) => h.0 - raw_h(t, KgPerM3(x)),
         Curve::Entropy(t, s) => s.0 - raw_s(t, KgPerM3(x)),
-    }
+    })
 }
 
+#[tactic(auto, unfolding(std::specs::Prelude::from_bits, common::specs::Decimal::decimal, common::specs::Decimal::scaled))]
 fn lifted(x: f64) -> f64
     ensures { result ≡ lifted_to x }
 {
@@ -80,99 +71,65 @@ fn lifted(x: f64) -> f64
 }
 
 // The first step, where the two start points differ in what is missing.
-fn opened(s: Secant) -> SecantAnswer
-    ensures { paper_secant result ≡ opened_by s }
+#[tactic(auto, using(crate::proofs::Steps::step_is), unfolding(crate::specs::Secant::opened_by, std::specs::Prelude::from_bits))]
+fn opened(s: Secant) -> Result<Secant, Refusal>
+    ensures { paper result ≡ opened_by s }
 {
-    let e = s.f - s.fl;
-    if is_finite(e) {
-        if e == 0.0 {
-            return SecantAnswer::Value(s);
-        }
-        let dx = (s.xl - s.x) * s.f / e;
-        if is_finite(dx) {
-            return SecantAnswer::Value(Secant {
-                xl: s.xl,
-                fl: s.fl,
-                x: s.x,
-                f: s.f,
-                dx,
-            });
-        }
-        return SecantAnswer::Lost;
+    let e = settle(s.f - s.fl)?;
+    if e == 0.0 {
+        return Ok(s);
     }
-    SecantAnswer::Lost
+    let dx = settle((s.xl - s.x) * s.f / e)?;
+    Ok(Secant { dx, ..s })
 }
 
 // Two places with their misses, the one with the smaller miss as the newer; no step yet.
 fn ordered(x1: f64, f1: f64, x2: f64, f2: f64) -> Secant
     ensures { result ≡ newer_last x1 f1 x2 f2 }
 {
-    if size(f1) < size(f2) {
-        return Secant {
-            xl: x2,
-            fl: f2,
-            x: x1,
-            f: f1,
-            dx: 0.0,
-        };
-    }
+    let (xl, fl, x, f) = if size(f1) < size(f2) {
+        (x2, f2, x1, f1)
+    } else {
+        (x1, f1, x2, f2)
+    };
     Secant {
-        xl: x1,
-        fl: f1,
-        x: x2,
-        f: f2,
+        xl,
+        fl,
+        x,
+        f,
         dx: 0.0,
     }
 }
 
 // The two start points, and the first step from them.
-fn start(curve: Curve, x1: f64, x2: f64) -> SecantAnswer
-    ensures { paper_secant result ≡ start_of curve x1 x2 }
+#[tactic(auto, unfolding(crate::specs::Secant::start_of))]
+fn start(curve: Curve, x1: f64, x2: f64) -> Result<Secant, Refusal>
+    ensures { paper result ≡ start_of curve x1 x2 }
 {
-    let f1 = missing(curve, x1);
-    let f2 = missing(curve, x2);
-    if is_finite(f1) {
-        if is_finite(f2) {
-            return opened(ordered(x1, f1, x2, f2));
-        }
-        return SecantAnswer::Lost;
-    }
-    SecantAnswer::Lost
+    let f1 = missing(curve, x1)?;
+    let f2 = missing(curve, x2)?;
+    opened(ordered(x1, f1, x2, f2))
 }
 
-// The place x, to which the step dx led, with what is missing there.
-fn arrive(curve: Curve, s: Secant, dx: f64, x: f64) -> SecantAnswer
-    ensures { paper_secant result ≡ arrived_at curve s dx x }
+// One trial, where e is by how much the last two misses differ: the step, the place to which it leads, and what is missing there.
+#[tactic(auto, using(crate::proofs::Steps::step_is), unfolding(crate::specs::Secant::trial_by))]
+fn trial(curve: Curve, s: Secant, e: f64) -> Result<Secant, Refusal>
+    ensures { paper result ≡ trial_by curve s e }
 {
-    let f = missing(curve, x);
-    if is_finite(f) {
-        return SecantAnswer::Value(Secant {
-            xl: s.x,
-            fl: s.f,
-            x,
-            f,
-            dx,
-        });
-    }
-    SecantAnswer::Lost
-}
-
-// One trial, where e is by how much the last two misses differ.
-fn trial(curve: Curve, s: Secant, e: f64) -> SecantAnswer
-    ensures { paper_secant result ≡ trial_by curve s e }
-{
-    let dx = (s.xl - s.x) * s.f / e;
-    if is_finite(dx) {
-        let next = s.x + dx;
-        if is_finite(next) {
-            return arrive(curve, s, dx, lifted(next));
-        }
-        return SecantAnswer::Lost;
-    }
-    SecantAnswer::Lost
+    let dx = settle((s.xl - s.x) * s.f / e)?;
+    let x = lifted(settle(s.x + dx)?);
+    let f = missing(curve, x)?;
+    Ok(Secant {
+        xl: s.x,
+        fl: s.f,
+        x,
+        f,
+        dx,
+    })
 }
 
 // Whether a step was long enough for another.
+#[tactic(auto, unfolding(std::specs::Prelude::from_bits, common::specs::Decimal::decimal, common::specs::Decimal::scaled))]
 fn far(dx: f64) -> bool
     ensures { result ≡ lt convergence_precision (size_of dx) }
 {
@@ -180,78 +137,69 @@ fn far(dx: f64) -> bool
 }
 
 // A trial more, where one is asked for.
-fn try_next(curve: Curve, s: Secant) -> Turn
-    ensures { paper_turn result ≡ turn_of curve s }
+#[tactic(auto, unfolding(crate::specs::Secant::turn_of, std::specs::Prelude::from_bits))]
+fn try_next(curve: Curve, s: Secant) -> Result<Option<Secant>, Refusal>
+    ensures { paper result ≡ turn_of curve s }
 {
-    if far(s.dx) {
-        if s.f == 0.0 {
-            return Turn::Ended;
-        }
-        let e = s.f - s.fl;
-        if is_finite(e) {
-            if e == 0.0 {
-                return Turn::Ended;
-            }
-            return match trial(curve, s, e) {
-                SecantAnswer::Value(next) => Turn::Tried(next),
-                SecantAnswer::Lost => Turn::Lost,
-            };
-        }
-        return Turn::Lost;
+    if !far(s.dx) || s.f == 0.0 {
+        return Ok(None);
     }
-    Turn::Ended
+    let e = settle(s.f - s.fl)?;
+    if e == 0.0 {
+        return Ok(None);
+    }
+    Ok(Some(trial(curve, s, e)?))
 }
 
 // The trials, one after the other, at most MAX_ITER of them.
-fn trials(curve: Curve, from: Secant) -> ProposalAnswer
-    ensures { paper_proposal result ≡ proposal_from curve from }
+fn trials(curve: Curve, from: Secant) -> Result<Proposal, Refusal>
+    ensures { paper result ≡ proposal_from curve from }
 {
     let mut at = from;
-    let mut count: u32 = 0;
-    while count < MAX_ITER {
-        match try_next(curve, at) {
-            Turn::Tried(next) => {
-                at = next;
-                count += 1;
-            }
-            Turn::Ended => {
-                return ProposalAnswer::Value(at.x, count);
-            }
-            Turn::Lost => {
-                return ProposalAnswer::Refused(Refusal::Step);
+    for count in 0..MAX_ITER {
+        match try_next(curve, at)? {
+            Some(next) => at = next,
+            None => {
+                return Ok(Proposal {
+                    place: at.x,
+                    trials: count,
+                });
             }
         }
     }
-    ProposalAnswer::Value(at.x, count)
+    Ok(Proposal {
+        place: at.x,
+        trials: MAX_ITER,
+    })
 }
 
 // The proposal of a search from x1 and x2.
-fn rtsec(curve: Curve, x1: f64, x2: f64) -> ProposalAnswer
-    ensures { paper_proposal result ≡ proposal_rule curve x1 x2 }
+#[tactic(auto, unfolding(crate::specs::Secant::proposal_rule))]
+fn rtsec(curve: Curve, x1: f64, x2: f64) -> Result<Proposal, Refusal>
+    ensures { paper result ≡ proposal_rule curve x1 x2 }
 {
-    match start(curve, x1, x2) {
-        SecantAnswer::Value(s) => trials(curve, s),
-        SecantAnswer::Lost => ProposalAnswer::Refused(Refusal::Step),
-    }
+    let s = start(curve, x1, x2)?;
+    trials(curve, s)
 }
 
 // The T at which p is the asked one, at a density.
-pub fn rtsec_p(d: KgPerM3, p: MPa, t1: Kelvin, t2: Kelvin) -> ProposalAnswer
-    ensures { paper_proposal result ≡ proposal_rule (Isochore d p) t1.0 t2.0 }
+// Kept: three calls of one search, so that each of the two start points and what is asked stands under its unit.
+pub fn rtsec_p(d: KgPerM3, p: MPa, t1: Kelvin, t2: Kelvin) -> Result<Proposal, Refusal>
+    ensures { paper result ≡ proposal_rule (Isochore d p) t1.0 t2.0 }
 {
     rtsec(Curve::Isochore(d, p), t1.0, t2.0)
 }
 
 // The d at which h is the asked one, at a temperature.
-pub fn rtsec_h(t: Kelvin, h: KJPerKg, d1: KgPerM3, d2: KgPerM3) -> ProposalAnswer
-    ensures { paper_proposal result ≡ proposal_rule (Enthalpy t h) d1.0 d2.0 }
+pub fn rtsec_h(t: Kelvin, h: KJPerKg, d1: KgPerM3, d2: KgPerM3) -> Result<Proposal, Refusal>
+    ensures { paper result ≡ proposal_rule (Enthalpy t h) d1.0 d2.0 }
 {
     rtsec(Curve::Enthalpy(t, h), d1.0, d2.0)
 }
 
 // The d at which s is the asked one, at a temperature.
-pub fn rtsec_s(t: Kelvin, s: KJPerKgK, d1: KgPerM3, d2: KgPerM3) -> ProposalAnswer
-    ensures { paper_proposal result ≡ proposal_rule (Entropy t s) d1.0 d2.0 }
+pub fn rtsec_s(t: Kelvin, s: KJPerKgK, d1: KgPerM3, d2: KgPerM3) -> Result<Proposal, Refusal>
+    ensures { paper result ≡ proposal_rule (Entropy t s) d1.0 d2.0 }
 {
     rtsec(Curve::Entropy(t, s), d1.0, d2.0)
 }

@@ -11,25 +11,16 @@ pub fn usual(a: f64) -> bool
     ensures { result ≡ usual_base a }
 {
     let square = a * a;
-    if 3.725290298461914e-9 <= square {
-        square <= 268435456.0
-    } else {
-        false
-    }
+    3.725290298461914e-9 <= square && square <= 268435456.0
 }
 
 // An r on the way to a power of a, or a NaN where a is not 0 and r is below the smallest normal f64 in size.
 pub fn look(a: f64, r: f64) -> f64
     ensures { result ≡ looked a r }
 {
-    if a == 0.0 {
-        return r;
+    if a != 0.0 && r.abs() < f64::MIN_POSITIVE {
+        f64::NAN
+    } else {
+        r
     }
-    if 2.2250738585072014e-308 <= r {
-        return r;
-    }
-    if r <= -2.2250738585072014e-308 {
-        return r;
-    }
-    0.0 / 0.0
 }

@@ -1,2 +1,2 @@
-pub mod Whole
+pub mod Zipped
 pub mod Unique

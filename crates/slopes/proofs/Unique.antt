@@ -10,5 +10,5 @@ fallen_one κs a e x y p q = p ∙ sym q
 pub factor_one : One 1 slopes.factor.Kinds.ps slopes.factor.Kinds.r slopes.factor.Reads.Post
 factor_one κs a e x y p q = p ∙ sym q
 
-pub slope_sum_one : One 5 slopes.slope_sum.Kinds.ps slopes.slope_sum.Kinds.r slopes.slope_sum.Reads.Post
+pub slope_sum_one : One 3 slopes.slope_sum.Kinds.ps slopes.slope_sum.Kinds.r slopes.slope_sum.Reads.Post
 slope_sum_one κs a e x y p q = p.is ∙ sym q.is

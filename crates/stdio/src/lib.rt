@@ -8,7 +8,7 @@ ghost use Rattle.std.specs.Io.KnownBytes.{Appends, Consumes, IsAtEnd};
 use std::io::{Cursor, Error, IsTerminal, Read, Write};
 
 // Why no more bytes were read.
-#[derive(Clone, Copy)]
+#[derive(Clone, Copy, Debug, PartialEq, Eq)]
 pub enum Stop {
     Full,
     Ended,
@@ -16,7 +16,8 @@ pub enum Stop {
 }
 
 // What reading came to: how many bytes there are, and why no more.
-#[derive(Clone, Copy)]
+// Kept: no Result, since the bytes before a failed read are still told; and no error, since its reason is said where the read fails.
+#[derive(Clone, Copy, Debug)]
 pub struct Reading {
     pub have: usize,
     pub stop: Stop,
@@ -35,10 +36,17 @@ pub fn read_until_full<R: Read>(
     ensures full { result.stop ≡ Stop.Full → result.have ≡ length bytes.new }
     ensures ended { result.stop ≡ Stop.Ended → IsAtEnd (R.remaining input.new) }
 {
+    // Kept: a while, since each read gives as many bytes as it likes.
     let mut have = 0;
     while have < bytes.len() {
-        let n = match input.read(&mut bytes[have..]) {
-            Ok(n) => n,
+        match input.read(&mut bytes[have..]) {
+            Ok(0) => {
+                return Reading {
+                    have,
+                    stop: Stop::Ended,
+                };
+            }
+            Ok(n) => have += n,
             Err(e) => {
                 fail(rt, what, e);
                 return Reading {
@@ -46,14 +54,7 @@ pub fn read_until_full<R: Read>(
                     stop: Stop::Failed,
                 };
             }
-        };
-        if n == 0 {
-            return Reading {
-                have,
-                stop: Stop::Ended,
-            };
         }
-        have += n;
     }
     Reading {
         have,
@@ -62,6 +63,7 @@ pub fn read_until_full<R: Read>(
 }
 
 // Writes the bytes and answers whether that went well. Says `what` and the reason where it did not.
+// Kept: a bool, for the reason is said here and a caller has only to stop.
 pub fn send<W: Write>(rt: HostRuntime, what: &[u8], to: &mut W, bytes: &[u8]) -> bool
     ensures sent { IsTrue result → Appends (W.contents to.old) (W.contents to.new) bytes.now }
 {

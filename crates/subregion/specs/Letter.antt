@@ -1,11 +1,9 @@
--- To believe: the byte of each letter, the letter of a byte, and what the answer of a choice says. Assumes nothing: these are definitions.
-use Rattle.std.specs.Prelude.{ℕ, ◌-◌, List, [], ◌∷◌, get_or}
+-- To believe: the byte of each letter, and the letter of a byte. Assumes nothing: these are definitions.
+use Rattle.std.specs.Prelude.{◌≡◌, ℕ, ◌-◌, ◌<◌, ◌⊎◌, List, [], ◌∷◌, get_or, Result, MatchResult}
 use Rattle.common.specs.Outcome.{Outcome, value, refused}
-use Rattle.common.specs.Answer.{number_of}
 use Rattle.subregion.specs.declared.Letter.{Letter}
 use Rattle.subregion.specs.declared.Letter.TheVariants as letters
-use Rattle.subregion.specs.declared.LetterAnswer.{LetterAnswer}
-use Rattle.subregion.specs.declared.LetterAnswer.TheVariants.{Value, Refused}
+use Rattle.subregion.specs.declared.NoLetter.{NoLetter}
 
 -- ASCII
 abbrev pub ascii_of : Letter → ℕ
@@ -47,10 +45,9 @@ alphabet =
 abbrev pub of_byte : ℕ → Letter
 of_byte b = get_or alphabet (b - 97) letters.A
 
--- the paper's number and value for each case of a choice
-abbrev pub paper_letter : LetterAnswer → Outcome Letter
-paper_letter (Value l) = value l
-paper_letter (Refused k) = refused (number_of k)
+-- the letter with this byte, or an error with a byte that is below a or above z
+abbrev pub Decodes : ℕ → Result Letter NoLetter → Type 0
+Decodes b r = MatchResult r (λ l. ascii_of l ≡ b) (λ e. (e.0 ≡ b) × ((b < 97) ⊎ (122 < b)))
 
 -- a refused call has no letter
 abbrev pub byte_in : Outcome Letter → ℕ

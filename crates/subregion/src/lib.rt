@@ -1,16 +1,16 @@
-// The letters of region 3 as a closed kind, the answer of a choice, and the byte of each.
+// The letters of region 3 as a closed kind, and the byte of each.
 #![tactic(auto)]
 
 ghost use Rattle.std.specs.Prelude.{◌≡◌};
-ghost use Rattle.common.specs.Outcome.{number_in};
-ghost use Rattle.subregion.specs.Letter.{ascii_of, of_byte, paper_letter, byte_in};
+ghost use Rattle.common.specs.Answer.{paper};
+ghost use Rattle.subregion.specs.Letter.{ascii_of, of_byte, Decodes, byte_in};
 
-use common::{Refusal, number};
+use common::Refusal;
 
-// A subregion of S05rev.
-#[derive(Clone, Copy)]
+// A subregion of S05rev, with the byte of its letter: 97 is b'a', and the others count on from it.
+#[derive(Clone, Copy, Debug, PartialEq, Eq)]
 pub enum Letter {
-    A,
+    A = 97,
     B,
     C,
     D,
@@ -38,95 +38,70 @@ pub enum Letter {
     Z,
 }
 
-// The answer of the letter choice.
-#[derive(Clone, Copy)]
-pub enum LetterAnswer {
-    Value(Letter),
-    Refused(Refusal),
-}
+impl From<Letter> for u8 {
+    ghost from_gives = { λ l r. r ≡ ascii_of l };
 
-pub fn ascii(l: Letter) -> u8
-    ensures { result ≡ ascii_of l }
-{
-    match l {
-        Letter::A => b'a',
-        Letter::B => b'b',
-        Letter::C => b'c',
-        Letter::D => b'd',
-        Letter::E => b'e',
-        Letter::F => b'f',
-        Letter::G => b'g',
-        Letter::H => b'h',
-        Letter::I => b'i',
-        Letter::J => b'j',
-        Letter::K => b'k',
-        Letter::L => b'l',
-        Letter::M => b'm',
-        Letter::N => b'n',
-        Letter::O => b'o',
-        Letter::P => b'p',
-        Letter::Q => b'q',
-        Letter::R => b'r',
-        Letter::S => b's',
-        Letter::T => b't',
-        Letter::U => b'u',
-        Letter::V => b'v',
-        Letter::W => b'w',
-        Letter::X => b'x',
-        Letter::Y => b'y',
-        Letter::Z => b'z',
+    fn from(l: Letter) -> u8 {
+        l as u8
     }
 }
 
-// The letter of a byte, and a for a byte that is none's.
+// A byte that is no letter's.
+#[derive(Clone, Copy, Debug, PartialEq, Eq)]
+pub struct NoLetter(pub u8);
+
+impl TryFrom<u8> for Letter {
+    type Error = NoLetter;
+
+    ghost try_from_gives = { Decodes };
+
+    fn try_from(b: u8) -> Result<Self, NoLetter> {
+        match b {
+            b'a' => Ok(Letter::A),
+            b'b' => Ok(Letter::B),
+            b'c' => Ok(Letter::C),
+            b'd' => Ok(Letter::D),
+            b'e' => Ok(Letter::E),
+            b'f' => Ok(Letter::F),
+            b'g' => Ok(Letter::G),
+            b'h' => Ok(Letter::H),
+            b'i' => Ok(Letter::I),
+            b'j' => Ok(Letter::J),
+            b'k' => Ok(Letter::K),
+            b'l' => Ok(Letter::L),
+            b'm' => Ok(Letter::M),
+            b'n' => Ok(Letter::N),
+            b'o' => Ok(Letter::O),
+            b'p' => Ok(Letter::P),
+            b'q' => Ok(Letter::Q),
+            b'r' => Ok(Letter::R),
+            b's' => Ok(Letter::S),
+            b't' => Ok(Letter::T),
+            b'u' => Ok(Letter::U),
+            b'v' => Ok(Letter::V),
+            b'w' => Ok(Letter::W),
+            b'x' => Ok(Letter::X),
+            b'y' => Ok(Letter::Y),
+            b'z' => Ok(Letter::Z),
+            _ => Err(NoLetter(b)),
+        }
+    }
+}
+
+// The letter of a byte, and a for a byte that is none's. Kept beside `try_from`: it cannot fail, and the column run asks it of bytes that it wrote itself.
+#[tactic(auto, using(crate::proofs::Bytes::decoded))]
 pub fn of_byte(b: u8) -> Letter
     ensures { result ≡ of_byte b }
 {
-    match b {
-        b'b' => Letter::B,
-        b'c' => Letter::C,
-        b'd' => Letter::D,
-        b'e' => Letter::E,
-        b'f' => Letter::F,
-        b'g' => Letter::G,
-        b'h' => Letter::H,
-        b'i' => Letter::I,
-        b'j' => Letter::J,
-        b'k' => Letter::K,
-        b'l' => Letter::L,
-        b'm' => Letter::M,
-        b'n' => Letter::N,
-        b'o' => Letter::O,
-        b'p' => Letter::P,
-        b'q' => Letter::Q,
-        b'r' => Letter::R,
-        b's' => Letter::S,
-        b't' => Letter::T,
-        b'u' => Letter::U,
-        b'v' => Letter::V,
-        b'w' => Letter::W,
-        b'x' => Letter::X,
-        b'y' => Letter::Y,
-        b'z' => Letter::Z,
-        _ => Letter::A,
-    }
+    Letter::try_from(b).unwrap_or(Letter::A)
 }
 
 // The letter's byte, or 0 where there is none.
-pub fn letter_byte(c: LetterAnswer) -> u8
-    ensures { result ≡ byte_in (paper_letter c) }
+pub fn letter_byte(c: Result<Letter, Refusal>) -> u8
+    ensures { result ≡ byte_in (paper c) }
 {
     match c {
-        LetterAnswer::Value(l) => ascii(l),
-        LetterAnswer::Refused(_) => 0,
-    }
-}
-
-pub fn refusal_byte(c: LetterAnswer) -> u8
-    ensures { result ≡ number_in (paper_letter c) }
-{
-    match c {
-        LetterAnswer::Value(_) => 0,
-        LetterAnswer::Refused(k) => number(k),
+        Ok(l) => l.into(),
+        Err(_) => 0,
     }
 }

@@ -14,15 +14,12 @@ const TABLE: usize = 1040;
 pub fn reply_to(row: &[u8], tables: &[u8]) -> Reply
     ensures { result ≡ row_reply row.now tables.now }
 {
-    let at = TABLE * (byte_at(row, 0) as usize);
-    let next = at + TABLE;
-    if next > tables.len() {
+    let at = TABLE * usize::from(byte_at(row, 0));
+    let Some(table) = tables.get(at..at + TABLE) else {
         return refused(UNKNOWN);
+    };
+    match sum_of(byte_at(row, 1)) {
+        Some(sum) => on_table(sum, float_at(row, 8), float_at(row, 16), table),
+        None => refused(UNKNOWN),
     }
-    on_table(
-        sum_of(byte_at(row, 1)),
-        float_at(row, 8),
-        float_at(row, 16),
-        &tables[at..next],
-    )
 }

@@ -4,14 +4,14 @@ ghost use Rattle.sum_rows.specs.Table.{rows_in, wholes, floats, table_reply};
 
 use buffer::{byte_at, float_at, int_at};
 use reply::Reply;
+use std::array;
 use sums_by_number::{Sum, work};
 
 // How many rows a column has: a table has room for 64.
 fn rows_in(table: &[u8], which: usize) -> usize
     ensures { (result ≡ rows_in table.now which) × (result ≤ 64) }
 {
-    let n = byte_at(table, which) as usize;
-    if n < 64 { n } else { 64 }
+    usize::from(byte_at(table, which)).min(64)
 }
 
 // The 64 whole numbers from a byte on.
@@ -19,29 +19,18 @@ fn wholes_from(table: &[u8], at: usize) -> [i32; 64]
     requires { at ≤ 1024 }
     ensures { result ≡ wholes table.now at }
 {
-    let mut column = [0i32; 64];
-    let mut k = 0;
-    while k < 64 {
-        column[k] = int_at(table, at + 4 * k);
-        k += 1;
-    }
-    column
+    array::from_fn(|k| int_at(table, at + 4 * k))
 }
 
-// The 64 numbers from a byte on.
+// The 64 numbers from a byte on. Kept: one function for both would take a number's reader and its size, and say no more.
 fn floats_from(table: &[u8], at: usize) -> [f64; 64]
     requires { at ≤ 1024 }
     ensures { result ≡ floats table.now at }
 {
-    let mut column = [0.0; 64];
-    let mut k = 0;
-    while k < 64 {
-        column[k] = float_at(table, at + 8 * k);
-        k += 1;
-    }
-    column
+    array::from_fn(|k| float_at(table, at + 8 * k))
 }
 
+// Kept: arrays with counts beside them, since a table's bytes are fixed so: three counts, and room for 64 rows in each column.
 pub fn on_table(sum: Sum, vi: f64, vj: f64, table: &[u8]) -> Reply
     ensures { result ≡ table_reply sum vi vj table.now }
 {

@@ -1,13 +1,14 @@
 -- To believe: which number names which sum, and what each comes to, by the library's own rules.
-use Rattle.std.specs.Prelude.{ℕ, List, [], ◌∷◌, ℤ, get_or, Float}
+use Rattle.std.specs.Prelude.{ℕ, List, [], ◌∷◌, ℤ, Option, Float}
+use Rattle.std.specs.List.{slice_get}
 use Rattle.algo.specs.Table.{term, term_i, term_ii, term_ij, term_j, term_jj}
 use Rattle.polynomial.specs.Columns.{table_rule, pair_table, four_table}
 use Rattle.algo.specs.declared.Order.TheVariants.{Zero, One}
 use Rattle.algo.specs.declared.Share.TheVariants.{Whole, I, IAgain, J}
 use Rattle.reply.specs.declared.Reply.{Reply}
 use Rattle.sums_by_number.specs.declared.Sum.{Sum}
-use Rattle.sums_by_number.specs.declared.Sum.TheVariants.{Unnamed, Poly, PolyI, PolyIi, PolyIj, PolyJ, PolyJj, Polys0J, PolysIJ, PolysIIj, PolysIIi, PolysIIiIjJj}
-use Rattle.reply.specs.Shape.{refused_by, number_reply}
+use Rattle.sums_by_number.specs.declared.Sum.TheVariants.{Poly, PolyI, PolyIi, PolyIj, PolyJ, PolyJj, Polys0J, PolysIJ, PolysIIj, PolysIIi, PolysIIiIjJj}
+use Rattle.reply.specs.Shape.{number_reply}
 use Rattle.sums_by_number.specs.Shape.{two_reply, four_reply}
 
 -- 0 to 10
@@ -15,12 +16,11 @@ abbrev pub numbered : List Sum
 numbered = Poly ∷ PolyI ∷ PolyIi ∷ PolyIj ∷ PolyJ ∷ PolyJj ∷ Polys0J ∷ PolysIJ ∷ PolysIIj ∷ PolysIIi ∷ PolysIIiIjJj ∷ []
 
 -- past the list there is none
-unfoldable pub sum_of : ℕ → Sum
-sum_of k = get_or numbered k Unnamed
+unfoldable pub sum_of : ℕ → Option Sum
+sum_of k = slice_get numbered k
 
 -- of a table's three columns
 unfoldable pub reply_rule : Sum → Float → Float → List ℤ → List ℤ → List Float → Reply
-reply_rule Unnamed vi vj is js ns = refused_by 255
 reply_rule Poly vi vj is js ns = number_reply (table_rule term vi vj is js ns)
 reply_rule PolyI vi vj is js ns = number_reply (table_rule term_i vi vj is js ns)
 reply_rule PolyIi vi vj is js ns = number_reply (table_rule term_ii vi vj is js ns)

@@ -7,10 +7,9 @@ mod sums;
 
 pub use sums::{UNKNOWN, sum_of, work};
 
-// The sums, in the order of their numbers and with the Rust's names. Unnamed stands for a number that names none.
-#[derive(Clone, Copy)]
+// The sums, in the order of their numbers and with the Rust's names.
+#[derive(Clone, Copy, Debug, PartialEq, Eq)]
 pub enum Sum {
-    Unnamed,
     Poly,
     PolyI,
     PolyIi,

@@ -1,36 +1,33 @@
 // What a sum of two or four numbers came to, in its shape. One of a single number has that of a call for one number.
 ghost use Rattle.std.specs.Prelude.{◌≡◌};
-ghost use Rattle.polynomial.specs.Columns.{paper_pair, paper_four};
+ghost use Rattle.common.specs.Answer.{paper};
 ghost use Rattle.sums_by_number.specs.Shape.{two_reply, four_reply};
 
-use common::number;
-use polynomial::{FourAnswer, PairAnswer};
+use common::Refusal;
+use joint::{Four, Pair};
 use reply::{Reply, refused};
 
-pub fn two_numbers(a: PairAnswer) -> Reply
-    ensures { result ≡ two_reply (paper_pair a) }
+pub fn two_numbers(a: Result<Pair, Refusal>) -> Reply
+    ensures { result ≡ two_reply (paper a) }
 {
     match a {
-        PairAnswer::Value(p) => Reply {
-            refusal: 0,
-            letter: 0,
-            beside: 0,
+        Ok(p) => Reply {
             numbers: [p.first, p.second, 0.0, 0.0, 0.0, 0.0, 0.0, 0.0, 0.0, 0.0],
+            ..refused(0)
         },
-        PairAnswer::Refused(k) => refused(number(k)),
+        Err(k) => refused(k.into()),
     }
 }
 
-pub fn four_numbers(a: FourAnswer) -> Reply
-    ensures { result ≡ four_reply (paper_four a) }
+// Kept: apart from `two_numbers`, since each names the numbers of its own struct in their order.
+pub fn four_numbers(a: Result<Four, Refusal>) -> Reply
+    ensures { result ≡ four_reply (paper a) }
 {
     match a {
-        FourAnswer::Value(p) => Reply {
-            refusal: 0,
-            letter: 0,
-            beside: 0,
+        Ok(p) => Reply {
             numbers: [p.i, p.ii, p.ij, p.jj, 0.0, 0.0, 0.0, 0.0, 0.0, 0.0],
+            ..refused(0)
         },
-        FourAnswer::Refused(k) => refused(number(k)),
+        Err(k) => refused(k.into()),
     }
 }

@@ -4,40 +4,40 @@ ghost use Rattle.sums_by_number.specs.Sums.{sum_of, reply_rule};
 
 use crate::Sum;
 use crate::shape::{four_numbers, two_numbers};
-use reply::{Reply, number_reply, refused};
+use reply::{Reply, number_reply};
 
 // The refusal of a sum or a table that does not exist.
+// Kept: apart from number_entries', which is 255 too: that is another program's, of what does not exist there.
 pub const UNKNOWN: u8 = 255;
 
-pub fn sum_of(number: u8) -> Sum
+const SUMS: [Sum; 11] = [
+    Sum::Poly,
+    Sum::PolyI,
+    Sum::PolyIi,
+    Sum::PolyIj,
+    Sum::PolyJ,
+    Sum::PolyJj,
+    Sum::Polys0J,
+    Sum::PolysIJ,
+    Sum::PolysIIj,
+    Sum::PolysIIi,
+    Sum::PolysIIiIjJj,
+];
+
+// The sum that a number names, if any.
+// Kept: an Option and no TryFrom, since None says all there is to say of a number that names none: an error type would say no more.
+pub fn sum_of(number: u8) -> Option<Sum>
     ensures { result ≡ sum_of number }
 {
-    let k = number as usize;
-    if k < 11 {
-        let sums = [
-            Sum::Poly,
-            Sum::PolyI,
-            Sum::PolyIi,
-            Sum::PolyIj,
-            Sum::PolyJ,
-            Sum::PolyJj,
-            Sum::Polys0J,
-            Sum::PolysIJ,
-            Sum::PolysIIj,
-            Sum::PolysIIi,
-            Sum::PolysIIiIjJj,
-        ];
-        return sums[k];
-    }
-    Sum::Unnamed
+    SUMS.get(usize::from(number)).copied()
 }
 
+// Kept: three slices and no `Columns` of slopes: the sums take a caller's columns as lent, of unequal lengths too, which they refuse.
 #[tactic(auto, unfolding(crate::specs::Sums::reply_rule))]
 pub fn work(sum: Sum, vi: f64, vj: f64, is: &[i32], js: &[i32], ns: &[f64]) -> Reply
     ensures { result ≡ reply_rule sum vi vj is.now js.now ns.now }
 {
     match sum {
-        Sum::Unnamed => refused(UNKNOWN),
         Sum::Poly => number_reply(polynomial::poly_powi(vi, vj, is, js, ns)),
         Sum::PolyI => number_reply(polynomial::poly_i_powi(vi, vj, is, js, ns)),
         Sum::PolyIi => number_reply(polynomial::poly_ii_powi(vi, vj, is, js, ns)),

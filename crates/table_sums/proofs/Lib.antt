@@ -1,2 +1,3 @@
 pub mod Constant
+pub mod Rows
 pub mod Unique

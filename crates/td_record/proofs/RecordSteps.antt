@@ -1,32 +1,14 @@
 -- A record whose fields are worked with no check and tested once is the record with a check at each step.
-use mathlib.Core.Path.{◌≡◌, refl}
-use mathlib.Core.Bool.{true, cond}
+use mathlib.Core.Path.{◌≡◌, refl, sym}
 use lib.Ieee.{Float, nan, inf, fin}
-use Rattle.common.specs.Outcome.{Outcome, value, refused, finite, check, then}
-use Rattle.common.specs.Formula.{lost_or, Raw}
+use Rattle.common.specs.Outcome.{Outcome, value, check, then}
+use Rattle.common.specs.Formula.{Raw}
 use Rattle.common.specs.Number.{Number}
+use Rattle.common.proofs.Calls.{no_value}
 use Rattle.properties.specs.Together.{Td2cp_w}
 use Rattle.properties.proofs.Together.{cp_number, w_number}
 use Rattle.td_record.specs.Steps.{record_with, record_after, record_steps}
 use Rattle.td_record.specs.declared.Pressure.{Pressure}
-
--- a is whole where x and what follows it are finite
-module _ {A : Type 0} (f : Float → Outcome A) (a : A) where
-  gate : (x rest : Float) → (finite x ≡ true → f x ≡ cond (finite rest) (value a) (refused 5)) → then (check x) f ≡ cond (finite (lost_or x rest)) (value a) (refused 5)
-  gate nan rest h = refl
-  gate (inf s) rest h = refl
-  gate (fin s m e) rest h = h refl
-
-  last : (x : Float) → f x ≡ value a → then (check x) f ≡ cond (finite x) (value a) (refused 5)
-  last nan h = refl
-  last (inf s) h = refl
-  last (fin s m e) h = h
-
-  pub before : {o : Outcome Float} {x : Float} → Raw o x → (rest : Float) → (finite x ≡ true → f x ≡ cond (finite rest) (value a) (refused 5)) → then o f ≡ cond (finite (lost_or x rest)) (value a) (refused 5)
-  before {x} w rest h = rw w.is (gate x rest h)
-
-  pub at_last : {o : Outcome Float} {x : Float} → Raw o x → f x ≡ value a → then o f ≡ cond (finite x) (value a) (refused 5)
-  at_last {x} w h = rw w.is (last x h)
 
 -- v is worked first
 pub steps_after : (t d v : Float) (source : Pressure) (o : Outcome Float) → Raw o v → then o (λ v. record_steps t d v source) ≡ record_steps t d v source
@@ -42,3 +24,9 @@ steps_after t d v source o w = rw w.is (twice v)
 pub record_with_lem : (t d v p : Float) {cp w : Float} → Number (Td2cp_w (check t) (check d)).cp cp → Number (Td2cp_w (check t) (check d)).w w → record_after t d v p ≡ record_with t d v p (check cp) (check w)
 unfolding record_after
 record_with_lem t d v p x y = rw ((cp_number t d x).raw.is, (w_number t d y).raw.is)
+
+-- a number that was accepted is the number that was checked
+pub checked : (x y : Float) → value y ≡ check x → value x ≡ check x
+checked nan y e = absurd (no_value (sym e))
+checked (inf s) y e = absurd (no_value (sym e))
+checked (fin s m k) y e = refl

@@ -4,12 +4,11 @@ use mathlib.Core.Path.{◌≡◌, refl, sym, ap, ◌∙◌, subst}
 use mathlib.Core.List.{List, [], ◌∷◌, ◌++◌}
 use Prim.Native.Nat.{ℕ, zero, suc, ◌+◌, ◌/◌, ◌%◌, ◌^◌, ◌<◌, ◌≤◌}
 use native.Mathlib.Nat.{pow-succ', not-suc-le-zero}
-use native.Mathlib.Numerals.{add-one}
 use native.Mathlib.Decide.{dec_lt}
 use native.Mathlib.Omega.{arith}
 use lib.Dec.{ltb}
-use lib.ListN.{length, get_or, set, take, length-append}
-use lib.Seq.{sets, take-suc, length-take-le}
+use lib.ListN.{length, set, length-append}
+use lib.Seq.{sets, length-sets}
 use borrow.Author.Tests.{lt-ltb, le-ltb, le-leb}
 use Rattle.buffer.proofs.Laws.{sets_then}
 use Rattle.text.specs.Text.{digits_in, decimal, fitting, Wrote}
@@ -24,11 +23,8 @@ wrote_then {l} {xs} {m} {ys} {k} {at} {r} {q} a b =
       holds = b.holds ∙ ap (λ (t : List ℕ). sets t r ys) a.holds ∙ sets_then xs ys l at r a.ends;
     }
 
-pub copied_more : (l : List ℕ) (at : ℕ) (src : List ℕ) (i : ℕ) → i < length src →
-    set (sets l at (take i src)) (at + i) (get_or src i 0) ≡ sets l at (take (i + 1) src)
-copied_more l at src i h =
-    sets_then (take i src) (get_or src i 0 ∷ []) l at (at + i) (ap (λ (k : ℕ). at + k) (sym (length-take-le i src (omega arith))))
-    ∙ ap (λ (xs : List ℕ). sets l at xs) (sym (take-suc src i 0 h) ∙ ap (λ (k : ℕ). take k src) (sym (add-one i)))
+pub wrote_length : {l xs m : List ℕ} {at r : ℕ} → Wrote l at xs m r → length m ≡ length l
+wrote_length {l} {xs} {m} {at} w = ap length w.holds ∙ length-sets l at xs
 
 -- what has room is written
 pub fitted : {old xs new : List ℕ} {at next : ℕ} (room : ℕ) → at + room ≤ length old → Wrote old at (fitting old at room xs) new next → Wrote old at xs new next
@@ -65,16 +61,23 @@ last_length n h = ap length (decimal_last n h)
 pub more_length : (n : ℕ) → 10 ≤ n → length (decimal n) ≡ length (decimal (n / 10)) + 1
 more_length n h = ap length (decimal_more n h) ∙ length-append (decimal (n / 10)) ((48 + n % 10) ∷ [])
 
-pub digit_last : (l : List ℕ) (at n d : ℕ) → n < 10 → d ≡ 48 + n % 10 → set l at d ≡ sets l at (decimal n)
-digit_last l at n d h e = ap (λ (x : ℕ). set l at x) e ∙ ap (λ (xs : List ℕ). sets l at xs) (sym (decimal_last n h))
+pub wrote_last : (l : List ℕ) (at n d : ℕ) → n < 10 → d ≡ 48 + n % 10 → Wrote l at (decimal n) (set l at d) (at + 1)
+wrote_last l at n d h e =
+    record {
+      ends = ap (λ (k : ℕ). at + k) (sym (last_length n h));
+      holds = ap (λ (x : ℕ). set l at x) e ∙ ap (λ (xs : List ℕ). sets l at xs) (sym (decimal_last n h));
+    }
 
-pub digit_more : (l m : List ℕ) (at n r d : ℕ) → 10 ≤ n → m ≡ sets l at (decimal (n / 10)) → r ≡ at + length (decimal (n / 10)) → d ≡ 48 + n % 10 →
-    set m r d ≡ sets l at (decimal n)
-digit_more l m at n r d h e k v =
-    ap (λ (x : ℕ). set m r x) v
-    ∙ ap (λ (xs : List ℕ). set xs r (48 + n % 10)) e
-    ∙ sets_then (decimal (n / 10)) ((48 + n % 10) ∷ []) l at r k
-    ∙ ap (λ (xs : List ℕ). sets l at xs) (sym (decimal_more n h))
+pub wrote_more : (l m : List ℕ) (at n r d : ℕ) → 10 ≤ n → Wrote l at (decimal (n / 10)) m r → d ≡ 48 + n % 10 → Wrote l at (decimal n) (set m r d) (r + 1)
+wrote_more l m at n r d h w e =
+    record {
+      ends = omega (arith, more_length n h, w.ends);
+      holds =
+          ap (λ (x : ℕ). set m r x) e
+          ∙ ap (λ (xs : List ℕ). set xs r (48 + n % 10)) w.holds
+          ∙ sets_then (decimal (n / 10)) ((48 + n % 10) ∷ []) l at r w.ends
+          ∙ ap (λ (xs : List ℕ). sets l at xs) (sym (decimal_more n h));
+    }
 
 -- as many turns as it has digits are enough
 pub turns : (k n : ℕ) → n < 10 ^ suc k → decimal n ≡ digits_in k n

@@ -45,11 +45,12 @@ pub rooms :
 rooms = refl
 
 -- what `put_decimal` promises of the number 7 in a room of twenty bytes, and of nineteen
-pub room_of_twenty : (κs : Lfts 1) (a : Dens κs own.put_decimal.Kinds.ps) (e : AtExit (ended_of 1 own.put_decimal.Kinds.ps own.put_decimal.Kinds.r) κs) (x : (res_t own.put_decimal.Kinds.r κs).Denot) →
-    own.put_decimal.Reads.Post κs a x e → a.0.now ≡ replicate 20 90 → a.1.0 ≡ 0 → a.1.1.0 ≡ 7 → Wrote (replicate 20 90) 0 (55 ∷ []) e.0.now x
+pub room_of_twenty : (κs : Lfts 2) (a : Dens κs own.Writer.put_decimal.Kinds.ps) (e : AtExit (ended_of 2 own.Writer.put_decimal.Kinds.ps own.Writer.put_decimal.Kinds.r) κs) (x : (res_t own.Writer.put_decimal.Kinds.r κs).Denot) →
+    own.Writer.put_decimal.Reads.Post κs a x e → a.0.now.out.now ≡ replicate 20 90 → a.0.now.at ≡ 0 → a.1.0 ≡ 7 →
+    Wrote (replicate 20 90) 0 (55 ∷ []) e.0.now.out.now e.0.now.at
 unfolding digits_in decimal
-room_of_twenty κs a e x p s i n = rw n at (rw i at (rw s at p))
+room_of_twenty κs a e x p s i n = rw n at (rw i at (rw s at p.0))
 
-pub room_of_nineteen : (κs : Lfts 1) (a : Dens κs own.put_decimal.Kinds.ps) (e : AtExit (ended_of 1 own.put_decimal.Kinds.ps own.put_decimal.Kinds.r) κs) (x : (res_t own.put_decimal.Kinds.r κs).Denot) →
-    own.put_decimal.Reads.Post κs a x e → a.0.now ≡ replicate 19 90 → a.1.0 ≡ 0 → Wrote (replicate 19 90) 0 [] e.0.now x
-room_of_nineteen κs a e x p s i = rw i at (rw s at p)
+pub room_of_nineteen : (κs : Lfts 2) (a : Dens κs own.Writer.put_decimal.Kinds.ps) (e : AtExit (ended_of 2 own.Writer.put_decimal.Kinds.ps own.Writer.put_decimal.Kinds.r) κs) (x : (res_t own.Writer.put_decimal.Kinds.r κs).Denot) →
+    own.Writer.put_decimal.Reads.Post κs a x e → a.0.now.out.now ≡ replicate 19 90 → a.0.now.at ≡ 0 → Wrote (replicate 19 90) 0 [] e.0.now.out.now e.0.now.at
+room_of_nineteen κs a e x p s i = rw i at (rw s at p.0)

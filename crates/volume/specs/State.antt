@@ -1,31 +1,18 @@
 -- To believe: a volume by its origin, and the state that it gives with its density (r3/region3_v_pT.rs). Assumes nothing: these are definitions.
 use Rattle.common.specs.Formula.{◌⊘◌}
 use Rattle.std.specs.Prelude.{Float}
-use Rattle.common.specs.Outcome.{Outcome, value, refused, then}
-use Rattle.common.specs.Answer.{number_of}
+use Rattle.common.specs.Outcome.{Outcome, value, then}
 use Rattle.common.specs.Decimal.{whole}
 use Rattle.common.specs.Constant.{dc_water}
 use Rattle.record.specs.State.{density_of}
 use Rattle.record.specs.declared.Origin.{Origin}
 use Rattle.record.specs.declared.Origin.TheVariants.{Subregion, Critical}
 use Rattle.volume.specs.Equation.{volume_at}
-use Rattle.volume.specs.declared.StateAnswer.{StateAnswer}
-use Rattle.volume.specs.declared.StateAnswer.TheVariants as states
-
--- v and d, with the origin of v
-pub record State : Type 0 where
-  pub origin : Origin
-  pub v : Float
-  pub d : Float
-
--- the paper's number and values for each case
-abbrev pub paper_state : StateAnswer → Outcome State
-paper_state (states.Value o v d) = value (record { origin = o; v = v.0; d = d.0 })
-paper_state (states.Refused k) = refused (number_of k)
+use Rattle.volume.specs.declared.State.{State}
 
 -- v, then d = 1/v with its test
 abbrev pub state_of : Origin → Outcome Float → Outcome State
-state_of o q = then q (λ v. then (density_of (value v)) (λ d. value (record { origin = o; v = v; d = d })))
+state_of o q = then q (λ v. then (density_of (value v)) (λ d. value (record { origin = o; volume = record { 0 = v }; density = record { 0 = d } })))
 
 -- at any p and t: no box is looked at
 unfoldable pub state_by : Origin → Float → Float → Outcome State

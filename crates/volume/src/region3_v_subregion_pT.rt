@@ -12,6 +12,7 @@ use subregion::Letter;
 use tables::letter_sum;
 
 // Table 4: v*, p*, T*, a and b.
+#[tactic(auto, unfolding(std::specs::Prelude::from_bits, common::specs::Decimal::decimal, common::specs::Decimal::whole, common::specs::Decimal::scaled))]
 pub fn equation(l: Letter) -> Equation
     ensures { result ≡ equation_of l }
 {
@@ -46,6 +47,7 @@ pub fn equation(l: Letter) -> Equation
 }
 
 // The volume by an equation, with the sum of the letter's table.
+// Kept: a match over the closed kind of equations, by which the definition of the same name chooses too; closures would part an equation from its numbers.
 pub fn volume_by(e: Equation, l: Letter, p: f64, t: f64) -> f64
     ensures { check result ≡ volume_by e (summed l) p t }
 {

@@ -10,7 +10,8 @@ use Rattle.volume.specs.Equation.{volume_at}
 use Rattle.volume.specs.State.{state_of, state_by}
 use Rattle.volume_at.specs.Volumes.{volume_in}
 
-by_density : (o : Origin) (v : Float) (q : Outcome Float) → volume_in (then q (λ d. value (record { origin = o; v = v; d = d }))) ≡ then q (λ _. value v)
+by_density : (o : Origin) (v : Float) (q : Outcome Float)
+    → volume_in (then q (λ d. value (record { origin = o; volume = record { 0 = v }; density = record { 0 = d } }))) ≡ then q (λ _. value v)
 by_density o v (value d) = refl
 by_density o v (refused k) = refl
 

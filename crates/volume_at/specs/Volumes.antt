@@ -9,7 +9,8 @@ use Rattle.subregion.specs.declared.Letter.{Letter}
 use Rattle.subregion.specs.declared.Letter.TheVariants.{C, R, S, T, U, X, Y, Z}
 use Rattle.origin.specs.Origin.{origin_at, origin_rule}
 use Rattle.volume.specs.Equation.{volume_at}
-use Rattle.volume.specs.State.{State, state_by, volume_from}
+use Rattle.volume.specs.State.{state_by, volume_from}
+use Rattle.volume.specs.declared.State.{State}
 use Rattle.volume_at.specs.declared.Phase.{Phase}
 use Rattle.volume_at.specs.declared.Phase.TheVariants.{Liquid, Steam}
 
@@ -32,7 +33,7 @@ unfolding origin_rule state_by
 found_rule p t = then (origin_rule p t) (λ o. state_by o p t)
 
 abbrev pub volume_in : Outcome State → Outcome Float
-volume_in o = then o (λ s. value s.v)
+volume_in o = then o (λ s. value s.volume.0)
 
 -- the volume alone, by the box and the state
 unfoldable pub pT2v_reg3_rule : Float → Float → Outcome Float

@@ -1,23 +1,19 @@
--- `algo::gated` meets its contract: each test says that its number is kept or lost, and 0.0 / 0.0 is a NaN. Assumes nothing.
-use mathlib.Core.Path.{◌≡◌, sym, ◌∙◌}
-use lib.Ieee.{div, of_bits}
-use Rattle.common.specs.Outcome.{value, check}
+-- `algo::gated` meets its contract where a number is lost. Assumes nothing.
+use mathlib.Core.Path.{sym, ◌∙◌}
+use lib.Ieee.{of_bits}
 use Rattle.common.proofs.Laws.{check_kept, check_lost}
 use Rattle.algo.proofs.gated.Goals as goal
+use Rattle.algo.proofs.gated.Goals.{else-is_finite-via-then-is_finite+then-is_finite-2+else-is_finite-3, else-is_finite-via-then-is_finite+else-is_finite-2, else-is_finite-via-else-is_finite}
 
-pub returns-then-is_finite-2 : goal.returns-then-is_finite-2
-unfolding div of_bits
-returns-then-is_finite-2 c =
-    let vi_kept : check c.args.vi ≡ value c.args.vi = check_kept c.args.vi (sym c.is_finite.ensures ∙ c.if-is_finite.true) in
-    let vj_kept : check c.args.vj ≡ value c.args.vj = check_kept c.args.vj (sym c.is_finite-then-is_finite.ensures ∙ c.if-is_finite-2.true) in
-    rw (vi_kept, vj_kept, check_lost c.args.x (sym c.is_finite-then-is_finite-2.ensures ∙ c.if-is_finite-3.false))
-
-pub returns-then-is_finite : goal.returns-then-is_finite
-unfolding div of_bits
-returns-then-is_finite c =
-    let vi_kept : check c.args.vi ≡ value c.args.vi = check_kept c.args.vi (sym c.is_finite.ensures ∙ c.if-is_finite.true) in
-    rw (vi_kept, check_lost c.args.vj (sym c.is_finite-then-is_finite.ensures ∙ c.if-is_finite-2.false))
-
-pub returns : goal.returns
-unfolding div of_bits
-returns c = rw (check_lost c.args.vi (sym c.is_finite.ensures ∙ c.if-is_finite.false))
+pub returns-else-is_finite : goal.returns-else-is_finite
+unfolding of_bits
+returns-else-is_finite c =
+    let a = c.args in
+    elim c.else-is_finite.branch [
+      | else-is_finite-via-then-is_finite+then-is_finite-2+else-is_finite-3 w ↦
+          rw (check_kept a.vi (sym c.is_finite.ensures ∙ w.if-is_finite.true), check_kept a.vj (sym w.is_finite-then-is_finite.ensures ∙ w.if-is_finite-2.true))
+          (rw (check_lost a.x (sym w.is_finite-then-is_finite-2.ensures ∙ w.if-is_finite-3.false)))
+      | else-is_finite-via-then-is_finite+else-is_finite-2 w ↦
+          rw (check_kept a.vi (sym c.is_finite.ensures ∙ w.if-is_finite.true)) (rw (check_lost a.vj (sym w.is_finite-then-is_finite.ensures ∙ w.if-is_finite-2.false)))
+      | else-is_finite-via-else-is_finite w ↦ rw (check_lost a.vi (sym c.is_finite.ensures ∙ w.if-is_finite.false))
+    ]

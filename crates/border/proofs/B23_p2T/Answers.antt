@@ -3,16 +3,13 @@ use mathlib.Core.Path.{sym, ◌∙◌}
 use lib.Ieee.{of_bits, round}
 use Rattle.common.specs.Decimal.{scaled, decimal, whole}
 use Rattle.border.specs.Border.{B23_p2T_rule}
-use Rattle.common.proofs.Calls.{going_on, turned_away}
+use Rattle.common.proofs.Calls.{went_in, passed_on}
 use Rattle.border.proofs.B23_p2T.Goals as goal
 
-pub returns-in-Accepted : goal.returns-in-Accepted
+pub returns : goal.returns
 unfolding B23_p2T_rule scaled decimal whole round of_bits
-returns-in-Accepted c =
-    c.settle.ensures
-    ∙ sym c.p2t_steps.ensures.is
-    ∙ sym (going_on c.check_only.ensures _ c.in-Accepted.is)
+returns c = c.settle.ensures ∙ sym c.p2t_steps.ensures.is ∙ sym (went_in _ c.in_ok-check_only.ensures)
 
-pub returns-in-Refused : goal.returns-in-Refused
+pub returns-in_err-check_only : goal.returns-in_err-check_only
 unfolding B23_p2T_rule scaled decimal whole round of_bits
-returns-in-Refused c = sym (turned_away c.check_only.ensures _ _ c.in-Refused.is)
+returns-in_err-check_only c = passed_on _ _ _ c.from_residual.ensures.1 c.in_err-check_only.ensures

@@ -5,4 +5,4 @@ use Rattle.common.proofs.in_t.Goals as goal
 
 pub returns : goal.returns
 unfolding of_bits decimal whole scaled
-returns c = c.ranged.ensures
+returns c = c.contains.ensures

@@ -14,7 +14,7 @@ unfolding of_bits scaled state_pressure Td2ks
 returns c =
     let a = c.args in
     let d = raw_check a.d.0 in
-    let w = (w_number a.t.0 a.d.0 c.raw_cp_w-both.ensures.1).raw in
+    let w = (w_number a.t.0 a.d.0 c.raw_cp_w-w.ensures.1).raw in
     rw (c.with_tested_p.ensures, c.lost_or.ensures)
     (then_p c.over.result _ w c.raw_p-p.ensures.raw
     (λ fw fp. named c.over.ensures (raw_value _ refl *ʳ raw_value _ fw *ʳ raw_value _ fw *ʳ d /ʳ raw_value _ fp)))

@@ -1,45 +1,52 @@
--- `joint::joint_sums` meets its contract: a row moves from what is left to each sum so far, and none are left after the shortest column.
+-- `joint::joint_sums` meets its contract: a row moves from what is left to each sum so far, and none are left at the end.
 use Prim.Native.Nat.{◌<◌, ◌^◌}
-use native.Mathlib.Omega.{arith}
-use borrow.Author.Rules.{rules}
-use lib.IntN.{ℤ, pos}
-use lib.ListN.{get_or}
+use lib.Ieee.{of_bits}
 use lib.Signed.{mag}
-use Rattle.algo.proofs.Loops.{Within, back}
+use borrow.Author.Rules.{rules}
+use Rattle.std.proofs.lemmas.Iterator.Consumers.{YieldsList-turn, YieldsList-end}
+use Rattle.algo.proofs.Loops.{back}
+use Rattle.slopes.proofs.Zipped.{Lent, yields_rows, none_yet}
 use Rattle.joint.proofs.Shares.{Item, added, ended}
 use Rattle.joint.proofs.joint_sums.Goals as goal
 
-pub loop-k-preserved : goal.loop-k-preserved
-loop-k-preserved c =
+pub loop-i-init : goal.loop-i-init
+unfolding of_bits
+loop-i-init c = record { first = none_yet _ _ _ _; second = none_yet _ _ _ _ }
+
+pub loop-i-preserved : goal.loop-i-preserved
+loop-i-preserved c =
     let a = c.args in
-    let v = c.loop-k in
-    let z = v.invariant.least in
-    let i : ℤ = get_or a.is.now v.k (pos 0) in
-    let j : ℤ = get_or a.js.now v.k (pos 0) in
-    let small_i : mag i < 2 ^ 31 = search rules in
-    let small_j : mag j < 2 ^ 31 = search rules in
-    let w : Within a.is.now a.js.now a.ns.now v.k = record {
-      i = omega (arith, z.first);
-      j = omega (arith, z.second);
-      n = omega (arith, z.third);
-    } in
-    let t : Item a.a a.wi.now a.wj.now a.is.now a.js.now a.ns.now v.k _ _ _ = record {
-      i_is = back i small_i;
-      j_is = back j small_j;
+    let t = a.table in
+    let l = c.loop-i in
+    let some = c.in-Some in
+    let x : Lent = ((some.field-0-0-0, some.field-0-0-1), some.field-0-1) in
+    let small_i : mag some.field-0-0-0.now < 2 ^ 31 = search rules in
+    let small_j : mag some.field-0-0-1.now < 2 ^ 31 = search rules in
+    let item : Item a.a a.wi.now a.wj.now t.is.now t.js.now t.ns.now x _ _ _ = record {
+      i_is = back _ small_i;
+      j_is = back _ small_j;
       by_i = c.factor.result;
       by_i_is = c.factor.ensures;
       item_is = c.factor-item.ensures;
     } in
-    let add = added a.a a.wi.now a.wj.now a.is.now a.js.now a.ns.now v.k w t in
+    let columns =
+    yields_rows t.is.now t.js.now t.ns.now c.iter.ensures.rest c.zip.ensures.first c.zip.ensures.second.0 c.zip-i-items.ensures.first
+    c.zip-i-items.ensures.second.0 c.into_iter-i-iterator.ensures.into_iter_gives in
+    let turn = YieldsList-turn columns l.yielded l.i-iterator l.yielded_by _ c.next.new.self x some.is c.next.ensures.steps in
+    let add = added a.a a.wi.now a.wj.now t.is.now t.js.now t.ns.now l.yielded x turn item in
     record {
-      least = z;
-      first = add a.s v.first _ c.weigh-first.ensures v.invariant.first;
-      second = add a.t v.second _ c.weigh-second.ensures v.invariant.second;
+      first = add a.s l.first _ c.weigh-first.ensures l.invariant.first;
+      second = add a.t l.second _ c.weigh-second.ensures l.invariant.second;
     }
 
 pub returns : goal.returns
 returns c =
     let a = c.args in
-    let v = c.loop-k in
-    let end = ended a.a a.wi.now a.wj.now a.is.now a.js.now a.ns.now v.k v.invariant.least c.loop-k-test.false in
-    (end a.s v.first v.invariant.first, end a.t v.second v.invariant.second)
+    let t = a.table in
+    let l = c.loop-i in
+    let columns =
+    yields_rows t.is.now t.js.now t.ns.now c.iter.ensures.rest c.zip.ensures.first c.zip.ensures.second.0 c.zip-i-items.ensures.first
+    c.zip-i-items.ensures.second.0 c.into_iter-i-iterator.ensures.into_iter_gives in
+    let all = YieldsList-end columns l.yielded l.i-iterator l.yielded_by _ c.next.new.self c.in-None.is c.next.ensures.steps in
+    let end = ended a.a a.wi.now a.wj.now t.is.now t.js.now t.ns.now l.yielded all.1 in
+    (end a.s l.first l.invariant.first, end a.t l.second l.invariant.second)

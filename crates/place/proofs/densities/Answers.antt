@@ -1,44 +1,27 @@
 -- `place::densities` meets its contract: the border's p, then the two densities. Assumes nothing.
-use mathlib.Core.Path.{◌≡◌, sym, ap, ◌∙◌}
+use mathlib.Core.Path.{sym}
 use lib.Ieee.{of_bits, round}
-use Rattle.common.specs.Outcome.{check}
-use Rattle.common.specs.Answer.{paper}
 use Rattle.common.specs.Decimal.{whole, scaled}
-use Rattle.common.specs.declared.Answer.{Answer}
-use Rattle.border.specs.Border.{B23_T2p}
+use Rattle.common.proofs.Calls.{passed_on}
 use Rattle.place.specs.AcceptedPlace.{densities_at}
-use Rattle.place.proofs.Laws.{T2p_settled}
-use Rattle.place.proofs.densities.Goals.{After-settle}
+use Rattle.place.proofs.Laws.{T2p_settled, answered}
 use Rattle.place.proofs.densities.Goals as goal
 
--- the border's p, from what was answered
-border : (c : After-settle) (a : Answer) → c.settle.result ≡ a → B23_T2p c.args.t.0 ≡ paper a
-border c a e = sym (T2p_settled _) ∙ ap check (sym c.raw_B23_T2p.ensures) ∙ sym c.settle.ensures ∙ ap paper e
-
-pub returns-in-Value-density_at-2 : goal.returns-in-Value-density_at-2
-unfolding densities_at of_bits whole scaled round
-returns-in-Value-density_at-2 c =
-    rw (
-      border (goal.at.returns-in-Value-density_at-2 c).After-settle _ c.in-Value.is,
-      sym c.density_at.ensures ∙ ap paper c.in-Value-density_at.is,
-      sym c.density_at-in-Value-density_at.ensures ∙ ap paper c.in-Value-density_at-2.is,
-    )
-
-pub returns-in-Refused-density_at-2 : goal.returns-in-Refused-density_at-2
-unfolding densities_at of_bits whole scaled round
-returns-in-Refused-density_at-2 c =
-    rw (
-      border (goal.at.returns-in-Refused-density_at-2 c).After-settle _ c.in-Value.is,
-      sym c.density_at.ensures ∙ ap paper c.in-Value-density_at.is,
-      sym c.density_at-in-Value-density_at.ensures ∙ ap paper c.in-Refused-density_at-2.is,
-    )
-
-pub returns-in-Refused-density_at : goal.returns-in-Refused-density_at
+pub returns-in_err-p : goal.returns-in_err-p
 unfolding densities_at
-returns-in-Refused-density_at c =
-    rw (border (goal.at.returns-in-Refused-density_at c).After-settle _ c.in-Value.is, sym c.density_at.ensures ∙ ap paper c.in-Refused-density_at.is)
+returns-in_err-p c = passed_on _ _ _ c.from_residual.ensures.1 (sym (answered (T2p_settled c.args.t.0) c.raw_B23_T2p.ensures c.in_err-p.ensures))
 
-pub returns-in-Refused : goal.returns-in-Refused
+pub returns-in_err-first : goal.returns-in_err-first
 unfolding densities_at
-returns-in-Refused c =
-    rw (border (goal.at.returns-in-Refused c).After-settle _ c.in-Refused.is)
+returns-in_err-first c =
+    rw (answered (T2p_settled c.args.t.0) c.raw_B23_T2p.ensures c.in_ok-p.ensures) (passed_on _ _ _ c.from_residual-in_err-first.ensures.1 c.in_err-first.ensures)
+
+pub returns-in_err-second : goal.returns-in_err-second
+unfolding densities_at of_bits whole scaled round
+returns-in_err-second c =
+    rw (answered (T2p_settled c.args.t.0) c.raw_B23_T2p.ensures c.in_ok-p.ensures, sym c.in_ok-first.ensures)
+    (passed_on _ _ _ c.from_residual-in_err-second.ensures.1 c.in_err-second.ensures)
+
+pub returns : goal.returns
+unfolding densities_at of_bits whole scaled round
+returns c = rw (answered (T2p_settled c.args.t.0) c.raw_B23_T2p.ensures c.in_ok-p.ensures, sym c.in_ok-first.ensures, sym c.in_ok-second.ensures)

@@ -5,20 +5,13 @@ use lib.Ieee.{of_bits}
 use Rattle.powers.proofs.Doubling.{written_down}
 use Rattle.powers.proofs.fill_down.Goals as goal
 
-pub loop-k-init : goal.loop-k-init
-loop-k-init c = record { within = omega arith; made = λ a b hi n f. f }
-
 pub loop-k-preserved : goal.loop-k-preserved
 unfolding of_bits
-loop-k-preserved c =
-    let k = c.loop-k.k in
-    let w = c.loop-k.w in
-    record {
-      within = omega arith;
-      made = λ a b hi n f. rw c.over.ensures (written_down a b w hi k (omega arith) (omega arith) (c.loop-k.invariant.made a b hi n f));
-    }
+loop-k-preserved c a b hi n f =
+    let l = c.loop-k in
+    rw c.over.ensures (written_down a b l.w hi l.k (omega arith) (omega arith) (l.invariant a b hi n f))
 
 pub returns : goal.returns
-returns c =
+returns c a b hi n f =
     let done : c.loop-k.k ≡ c.args.low = omega arith in
-    λ a b hi n f. rw done at (c.loop-k.invariant.made a b hi n f)
+    rw done at (c.loop-k.invariant a b hi n f)

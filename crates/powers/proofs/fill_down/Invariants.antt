@@ -4,10 +4,4 @@ use Rattle.powers.specs.Powers.{Written}
 use Rattle.powers.proofs.fill_down.Given as goal
 
 abbrev pub invariant-loop-k : goal.invariant-loop-k
-invariant-loop-k l = record {
-  within : l.k ≤ l.low;
-  made : (a : Float) (b : List Float) (hi : ℕ) → 65 + l.low ≤ hi → Written a b l.fn.w 64 hi → Written a b l.w (64 - l.k) hi;
-}
-
-abbrev pub decreases-loop-k : goal.decreases-loop-k
-decreases-loop-k l = l.low - l.k
+invariant-loop-k l = (a : Float) (b : List Float) (hi : ℕ) → 65 + l.low ≤ hi → Written a b l.fn.w 64 hi → Written a b l.w (64 - l.k) hi

@@ -1,41 +1,48 @@
--- `slopes::slope_rows` meets its contract: a row moves from what is left to the sum so far, and none are left after the shortest column.
-use mathlib.Core.Path.{sym, ◌∙◌}
+-- `slopes::slope_rows` meets its contract: a row moves from what is left to the sum so far, and none are left at the end.
+use mathlib.Core.Path.{refl}
 use Prim.Native.Nat.{◌<◌, ◌^◌}
-use native.Mathlib.Omega.{arith}
-use borrow.Author.Rules.{rules}
-use lib.IntN.{ℤ, pos}
-use lib.ListN.{get_or}
+use lib.Ieee.{of_bits}
 use lib.Signed.{mag}
+use borrow.Author.Rules.{rules}
+use Rattle.std.proofs.lemmas.Iterator.Consumers.{YieldsList-turn, YieldsList-end}
 use Rattle.algo.specs.Raw.{tabled_term}
-use Rattle.algo.proofs.Loops.{one_more, none_after, back}
+use Rattle.algo.proofs.Loops.{back}
+use Rattle.slopes.proofs.Zipped.{Lent, yields_rows, none_yet, one_more, none_left}
 use Rattle.slopes.proofs.slope_rows.Goals as goal
 
-pub loop-k-preserved : goal.loop-k-preserved
-loop-k-preserved c =
+pub loop-i-init : goal.loop-i-init
+unfolding of_bits
+loop-i-init c = none_yet _ _ _ _
+
+pub loop-i-preserved : goal.loop-i-preserved
+loop-i-preserved c =
     let a = c.args in
-    let k = c.loop-k.k in
-    let z = c.loop-k.invariant.least in
-    let i : ℤ = get_or a.is.now k (pos 0) in
-    let j : ℤ = get_or a.js.now k (pos 0) in
-    let small_i : mag i < 2 ^ 31 = search rules in
-    let small_j : mag j < 2 ^ 31 = search rules in
-    let p = rw (back i small_i) at c.factor.ensures in
-    let q = rw (back j small_j) at c.factor-sum.ensures in
-    record {
-      least = z;
-      same =
-          rw (q, p)
-          (c.loop-k.invariant.same
-          ∙ one_more (tabled_term a.a a.b a.wi.now a.wj.now) c.loop-k.sum a.is.now a.js.now a.ns.now k
-          (record { i = omega (arith, z.first); j = omega (arith, z.second); n = omega (arith, z.third) }));
-    }
+    let is = a.table.is.now in
+    let js = a.table.js.now in
+    let ns = a.table.ns.now in
+    let l = c.loop-i in
+    let some = c.in-Some in
+    let x : Lent = ((some.field-0-0-0, some.field-0-0-1), some.field-0-1) in
+    let small_i : mag some.field-0-0-0.now < 2 ^ 31 = search rules in
+    let small_j : mag some.field-0-0-1.now < 2 ^ 31 = search rules in
+    let p = rw (back _ small_i) at c.factor.ensures in
+    let q = rw (back _ small_j) at c.factor-sum.ensures in
+    let columns =
+    yields_rows is js ns c.iter.ensures.rest c.zip.ensures.first c.zip.ensures.second.0 c.zip-i-items.ensures.first
+    c.zip-i-items.ensures.second.0 c.into_iter-i-iterator.ensures.into_iter_gives in
+    one_more (tabled_term a.a a.b a.wi.now a.wj.now) is js ns l.yielded x l.sum _
+    (YieldsList-turn columns l.yielded l.i-iterator l.yielded_by _ c.next.new.self x some.is c.next.ensures.steps)
+    (rw (q, p) refl) l.invariant
 
 pub returns : goal.returns
 returns c =
     let a = c.args in
-    let i = c.loop-k.invariant in
-    record {
-      is = sym
-          (i.same
-          ∙ none_after (tabled_term a.a a.b a.wi.now a.wj.now) c.loop-k.sum a.is.now a.js.now a.ns.now _ i.least c.loop-k.k c.loop-k-test.false);
-    }
+    let is = a.table.is.now in
+    let js = a.table.js.now in
+    let ns = a.table.ns.now in
+    let l = c.loop-i in
+    let columns =
+    yields_rows is js ns c.iter.ensures.rest c.zip.ensures.first c.zip.ensures.second.0 c.zip-i-items.ensures.first
+    c.zip-i-items.ensures.second.0 c.into_iter-i-iterator.ensures.into_iter_gives in
+    let end = YieldsList-end columns l.yielded l.i-iterator l.yielded_by _ c.next.new.self c.in-None.is c.next.ensures.steps in
+    record { is = none_left (tabled_term a.a a.b a.wi.now a.wj.now) is js ns l.yielded l.sum end.1 l.invariant }

@@ -11,5 +11,5 @@ returns c = record {
   wj = _;
   worked_i = c.fill_bare.ensures;
   worked_j = c.fill_bare-2.ensures;
-  is = c.or_nan.ensures ∙ ap or_nan (c.settle.ensures ∙ ap check (rw c.least-m.ensures at c.plain_sum.ensures.is));
+  is = c.finite_or_nan.ensures ∙ ap (λ x. or_nan (check x)) c.plain_sum.ensures.is;
 }

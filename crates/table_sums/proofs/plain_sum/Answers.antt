@@ -1,30 +1,22 @@
--- `table_sums::plain_sum` meets its contract: each part moves its rows from what is left to the sum so far, and none are left after the shortest column.
+-- `table_sums::plain_sum` meets its contract: each part moves its rows from what is left to the sum so far.
 use mathlib.Core.Path.{sym, ◌∙◌}
-use Prim.Native.Nat.{◌+◌}
 use Rattle.algo.specs.Raw.{tabled_term}
 use Rattle.algo.specs.declared.Order.TheVariants.{Zero}
-use Rattle.algo.proofs.Loops.{none_after, cut_short}
+use Rattle.table_sums.proofs.Rows.{parts_added, none_in}
 use Rattle.table_sums.proofs.plain_sum.Goals as goal
 
-pub loop-start-preserved : goal.loop-start-preserved
-loop-start-preserved c =
+pub loop-part-preserved : goal.loop-part-preserved
+loop-part-preserved c =
     let a = c.args in
-    let i = c.loop-start.invariant in
-    record {
-      least = i.least;
-      same =
-          i.same
-          ∙ (rw c.least-in-loop-start.ensures at c.plain_part-sum.ensures)
-          ∙ cut_short (tabled_term Zero Zero a.wi.now a.wj.now) c.plain_part-sum.result a.is.now a.js.now a.ns.now _ i.least (c.loop-start.start + 11);
-    }
+    let s = c.in-Some.ensures.steps in
+    rw c.plain_part-sum.ensures
+    ((rw s.1.0 at c.loop-part.invariant)
+    ∙ parts_added (tabled_term Zero Zero a.wi.now a.wj.now) c.loop-part.sum c.in-Some.part.now c.next.new.self.rest.now)
 
 pub returns : goal.returns
 returns c =
     let a = c.args in
-    let i = c.loop-start.invariant in
     record {
-      is = sym
-          (i.same
-          ∙ none_after (tabled_term Zero Zero a.wi.now a.wj.now) c.loop-start.sum a.is.now a.js.now a.ns.now _ i.least c.loop-start.start
-          c.loop-start-test.false);
+      is = sym (c.loop-part.invariant
+          ∙ none_in (tabled_term Zero Zero a.wi.now a.wj.now) c.loop-part.sum c.loop-part.part-iterator.rest.now c.in-None.ensures.steps.1.0);
     }

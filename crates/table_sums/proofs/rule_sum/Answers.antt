@@ -12,5 +12,5 @@ returns c = record {
   wj = _;
   worked_i = c.fill_powers.ensures;
   worked_j = c.fill_powers-2.ensures;
-  is = c.gated.ensures ∙ ap (λ (y : Float). or_nan (gate c.args.vi c.args.vj y)) (rw c.least-m.ensures at c.plain_sum.ensures.is);
+  is = c.gated.ensures ∙ ap (λ (y : Float). or_nan (gate c.args.vi c.args.vj y)) c.plain_sum.ensures.is;
 }

@@ -1,71 +1,50 @@
 -- `boundaries::table::row_at` meets its contract: antt computes that each row is the table's, the bits of each literal those of its decimal. Assumes nothing.
-use Prim.Native.Nat.{ℕ, zero, suc, ◌≤◌}
-use native.Mathlib.Omega.{arith}
-use mathlib.Core.Path.{◌≡◌, refl, sym, ap}
-use mathlib.Core.List.{List, [], ◌∷◌}
+use mathlib.Core.Path.{refl}
 use lib.Ieee.{of_bits, round, neg}
 use Rattle.common.specs.Decimal.{scaled, plus, minus}
-use Rattle.boundaries.specs.Boundary.{Row, table, at, row_at}
+use Rattle.boundaries.specs.Boundary.{table, row_at}
 use Rattle.boundaries.proofs.table.row_at.Goals as goal
 
--- beyond the last place, the last
-abbrev last_place : List Row → ℕ
-last_place [] = 0
-last_place (r ∷ []) = 0
-last_place (r ∷ s ∷ rs) = suc (last_place (s ∷ rs))
-
-at_last : (rs : List Row) (k : ℕ) → last_place rs ≤ k → at rs k ≡ at rs (last_place rs)
-at_last [] k h = refl
-at_last (r ∷ []) k h = refl
-at_last (r ∷ s ∷ rs) zero h = absurd (omega arith)
-at_last (r ∷ s ∷ rs) (suc k) h = at_last (s ∷ rs) k (omega arith)
-
-last : (k : ℕ) → 10 ≤ k → row_at k ≡ row_at 10
-unfolding row_at table
-last k h = at_last table k h
-
-pub returns-in-0 : goal.returns-in-0
+pub returns-in-Ab : goal.returns-in-Ab
 unfolding row_at table plus minus scaled round neg of_bits
-returns-in-0 c = sym (ap row_at c.in-0.is)
+returns-in-Ab c = rw c.in-Ab.is refl
 
-pub returns-in-1 : goal.returns-in-1
+pub returns-in-Cd : goal.returns-in-Cd
 unfolding row_at table plus minus scaled round neg of_bits
-returns-in-1 c = sym (ap row_at c.in-1.is)
+returns-in-Cd c = rw c.in-Cd.is refl
 
-pub returns-in-2 : goal.returns-in-2
+pub returns-in-Gh : goal.returns-in-Gh
 unfolding row_at table plus minus scaled round neg of_bits
-returns-in-2 c = sym (ap row_at c.in-2.is)
+returns-in-Gh c = rw c.in-Gh.is refl
 
-pub returns-in-3 : goal.returns-in-3
+pub returns-in-Ij : goal.returns-in-Ij
 unfolding row_at table plus minus scaled round neg of_bits
-returns-in-3 c = sym (ap row_at c.in-3.is)
+returns-in-Ij c = rw c.in-Ij.is refl
 
-pub returns-in-4 : goal.returns-in-4
+pub returns-in-Jk : goal.returns-in-Jk
 unfolding row_at table plus minus scaled round neg of_bits
-returns-in-4 c = sym (ap row_at c.in-4.is)
+returns-in-Jk c = rw c.in-Jk.is refl
 
-pub returns-in-5 : goal.returns-in-5
+pub returns-in-Mn : goal.returns-in-Mn
 unfolding row_at table plus minus scaled round neg of_bits
-returns-in-5 c = sym (ap row_at c.in-5.is)
+returns-in-Mn c = rw c.in-Mn.is refl
 
-pub returns-in-6 : goal.returns-in-6
+pub returns-in-Op : goal.returns-in-Op
 unfolding row_at table plus minus scaled round neg of_bits
-returns-in-6 c = sym (ap row_at c.in-6.is)
+returns-in-Op c = rw c.in-Op.is refl
 
-pub returns-in-7 : goal.returns-in-7
+pub returns-in-Qu : goal.returns-in-Qu
 unfolding row_at table plus minus scaled round neg of_bits
-returns-in-7 c = sym (ap row_at c.in-7.is)
+returns-in-Qu c = rw c.in-Qu.is refl
 
-pub returns-in-8 : goal.returns-in-8
+pub returns-in-Rx : goal.returns-in-Rx
 unfolding row_at table plus minus scaled round neg of_bits
-returns-in-8 c = sym (ap row_at c.in-8.is)
+returns-in-Rx c = rw c.in-Rx.is refl
 
-pub returns-in-9 : goal.returns-in-9
+pub returns-in-Uv : goal.returns-in-Uv
 unfolding row_at table plus minus scaled round neg of_bits
-returns-in-9 c = sym (ap row_at c.in-9.is)
+returns-in-Uv c = rw c.in-Uv.is refl
 
-pub returns-in_default : goal.returns-in_default
+pub returns-in-Wx : goal.returns-in-Wx
 unfolding row_at table plus minus scaled round neg of_bits
-returns-in_default c =
-    let ten : 10 ≤ c.args.k = omega arith in
-    sym (last c.args.k ten)
+returns-in-Wx c = rw c.in-Wx.is refl

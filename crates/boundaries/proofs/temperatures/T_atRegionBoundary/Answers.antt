@@ -3,20 +3,17 @@ use mathlib.Core.Path.{sym, ap, ◌∙◌}
 use lib.Ieee.{of_bits, round}
 use Rattle.common.specs.Outcome.{check}
 use Rattle.common.specs.Decimal.{scaled, decimal, whole}
-use Rattle.common.proofs.Calls.{going_on, turned_away}
+use Rattle.common.proofs.Calls.{went_in, passed_on}
 use Rattle.boundaries.specs.Boundary.{boundary_rule}
 use Rattle.boundaries.proofs.TableSums.{boundary_check}
 use Rattle.boundaries.proofs.temperatures.T_atRegionBoundary.Goals as goal
 
-pub returns-in-Accepted : goal.returns-in-Accepted
+pub returns : goal.returns
 unfolding boundary_rule scaled decimal whole round of_bits
-returns-in-Accepted c =
+returns c =
     let a = c.args in
-    c.settle.ensures
-    ∙ ap check c.raw_boundary.ensures
-    ∙ boundary_check a.b a.p.0
-    ∙ sym (going_on c.check_only.ensures _ c.in-Accepted.is)
+    c.settle.ensures ∙ ap check c.raw_boundary.ensures ∙ boundary_check a.b a.p.0 ∙ sym (went_in _ c.in_ok-check_only.ensures)
 
-pub returns-in-Refused : goal.returns-in-Refused
+pub returns-in_err-check_only : goal.returns-in_err-check_only
 unfolding boundary_rule scaled decimal whole round of_bits
-returns-in-Refused c = sym (turned_away c.check_only.ensures _ _ c.in-Refused.is)
+returns-in_err-check_only c = passed_on _ _ _ c.from_residual.ensures.1 c.in_err-check_only.ensures

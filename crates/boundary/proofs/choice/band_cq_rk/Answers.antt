@@ -2,7 +2,7 @@
 use Rattle.choosers.proofs.Tests.{around_or}
 use Rattle.boundary.proofs.choice.band_cq_rk.Goals as goal
 
-pub returns-in-Found : goal.returns-in-Found
-returns-in-Found c =
+pub returns-in-Some : goal.returns-in-Some
+returns-in-Some c =
     rw (← c.bare_boundary-tcd.ensures, ← c.bare_boundary-tqu.ensures, ← c.bare_boundary-trx.ensures, ← c.bare_boundary-tjk.ensures)
-    (rw (around_or, ← c.round_critical.ensures, c.in-Found.is))
+    (rw (around_or, ← c.round_critical.ensures, c.in-Some.is))

@@ -3,9 +3,13 @@ use lib.Ieee.{of_bits, round}
 use Rattle.common.specs.Decimal.{decimal, scaled}
 use Rattle.choosers.proofs.letter_by.by_steam.Goals as goal
 
-pub returns-then-p : goal.returns-then-p
+pub returns-then-t-twx : goal.returns-then-t-twx
 unfolding decimal scaled round of_bits
-returns-then-p c = rw c.if-p.true c.under.ensures
+returns-then-t-twx c = rw (c.if-p.true, c.if-t-twx.true)
+
+pub returns-else-t-twx : goal.returns-else-t-twx
+unfolding decimal scaled round of_bits
+returns-else-t-twx c = rw (c.if-p.true, c.if-t-twx.false)
 
 pub returns-else-p : goal.returns-else-p
 unfolding decimal scaled round of_bits

@@ -10,20 +10,8 @@ use Rattle.column_row.specs.Row.{row_rule}
 use Rattle.column_run.specs.Columns.{letter_in, density_in, refusal_in}
 use Rattle.column_row.specs.TwoTurns.{mark_in, stop_in}
 use Rattle.column_row.proofs.TwoTurns.{row_is}
-use Rattle.column_run.proofs.Rows.{filled_none, filled_more, filled_all, left_all, left_less, rows_long}
+use Rattle.column_run.proofs.Rows.{filled_more, filled_all, left_less}
 use Rattle.column_run.proofs.run.fill_rows.Goals as goal
-
-pub loop-i-init : goal.loop-i-init
-loop-i-init c =
-    let q = c.requires in
-    record {
-      in_range = omega arith;
-      letters = filled_none letter_in 0 _ _ _ (rows_long mark_in 0 _ _ _ q.0 q.2);
-      densities = filled_none density_in nan _ _ _ q.1;
-      refusals = filled_none refusal_in 0 _ _ _ (rows_long stop_in 0 _ _ _ q.0 q.3);
-      marks = left_all mark_in 0 _ _ _ q.0 q.2;
-      stops = left_all stop_in 0 _ _ _ q.0 q.3;
-    }
 
 pub loop-i-preserved : goal.loop-i-preserved
 loop-i-preserved c =
@@ -38,7 +26,6 @@ loop-i-preserved c =
     let k : get_or l.refusals i 0 ≡ stop_in p t = v.stops.each i (omega arith) h in
     let e : c.line_of-line.result ≡ row_rule p t = c.line_of-line.ensures ∙ rw (m, k) (row_is (origin_rule p t) p t refl) in
     record {
-      in_range = omega arith;
       letters = filled_more letter_in 0 _ _ _ _ _ h v.letters (ap (λ (r : Line). r.letter) e);
       densities = filled_more density_in nan _ _ _ _ _ h v.densities (ap (λ (r : Line). r.density.0) e);
       refusals = filled_more refusal_in 0 _ _ _ _ _ h v.refusals (ap (λ (r : Line). r.refusal) e);
@@ -49,7 +36,7 @@ loop-i-preserved c =
 pub returns : goal.returns
 returns c =
     let v = c.loop-i.invariant in
-    let e = c.requires.0 in
+    let e = c.requires.times_long in
     let o = c.loop-i-test.false in
     record {
       letters_after = filled_all letter_in 0 _ _ _ _ e o v.letters;

@@ -6,4 +6,4 @@ pub returns : goal.returns
 unfolding of_bits
 returns c =
     let z = c.span_of-span.ensures in
-    rw (c.rest.ensures, z.0, z.1, c.step_count-s.ensures) at c.fill_powers.ensures
+    rw (c.saturating_sub.ensures, z.0, z.1, c.step_count-s.ensures) at c.fill_powers.ensures

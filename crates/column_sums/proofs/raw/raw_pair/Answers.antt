@@ -10,14 +10,14 @@ use Rattle.column_sums.proofs.raw.raw_pair.Goals as goal
 pub returns : goal.returns
 returns c =
     let a = c.args in
-    let is = a.is.now in
-    let js = a.js.now in
+    let is = a.table.is.now in
+    let js = a.table.js.now in
     let p = powers_hold a.vi _ _ (ups a.a is) (downs a.a is) c.powers_for-wi.ensures in
     let q = powers_hold a.vj _ _ (ups Zero js) (downs Zero js) c.powers_for-wj.ensures in
-    let rows = covered a.a Zero is js a.ns.now in
+    let rows = covered a.a Zero is js a.table.ns.now in
     let h = c.joint_sums-p.ensures in (
       share_ends a.vi a.vj _ _ (ups a.a is) (downs a.a is) (ups Zero js) (downs Zero js) p q
-          {a = a.a} {s = a.s} {rs = rows_of is js a.ns.now} rows h.0 c.finished.ensures,
+          {a = a.a} {s = a.s} {rs = rows_of is js a.table.ns.now} rows h.0 c.finished.ensures,
       share_ends a.vi a.vj _ _ (ups a.a is) (downs a.a is) (ups Zero js) (downs Zero js) p q
-          {a = a.a} {s = a.t} {rs = rows_of is js a.ns.now} rows h.1 c.finished-2.ensures,
+          {a = a.a} {s = a.t} {rs = rows_of is js a.table.ns.now} rows h.1 c.finished-2.ensures,
     )

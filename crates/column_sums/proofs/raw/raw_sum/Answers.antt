@@ -9,9 +9,9 @@ use Rattle.column_sums.proofs.raw.raw_sum.Goals as goal
 pub returns : goal.returns
 returns c =
     let a = c.args in
-    let is = a.is.now in
-    let js = a.js.now in
+    let is = a.table.is.now in
+    let js = a.table.js.now in
     slope_ends a.vi a.vj _ _ (ups a.a is) (downs a.a is) (ups a.b js) (downs a.b js)
     (powers_hold a.vi _ _ (ups a.a is) (downs a.a is) c.powers_for-wi.ensures)
     (powers_hold a.vj _ _ (ups a.b js) (downs a.b js) c.powers_for-wj.ensures)
-    {a = a.a} {b = a.b} {rs = rows_of is js a.ns.now} (covered a.a a.b is js a.ns.now) c.slope_sum.ensures c.gated.ensures
+    {a = a.a} {b = a.b} {rs = rows_of is js a.table.ns.now} (covered a.a a.b is js a.table.ns.now) c.slope_sum.ensures c.gated.ensures

@@ -15,7 +15,7 @@ use Rattle.entries.proofs.page.answer_rows.Goals as goal
 
 pub loop-i-init : goal.loop-i-init
 unfolding replies_to joined
-loop-i-init c = record { in_range = omega arith; same_length = refl; answered = refl }
+loop-i-init c = record { same_length = refl; answered = refl }
 
 pub loop-i-preserved : goal.loop-i-preserved
 unfolding replies_to
@@ -23,7 +23,6 @@ loop-i-preserved c =
     let l = c.loop-i in
     let f : ℕ → List ℕ = λ k. reply_bytes (reply_at c.args.rows.now (24 * k)) in
     record {
-      in_range = omega arith;
       same_length = c.put_reply.auto.out ∙ l.invariant.same_length;
       answered =
           c.put_reply.ensures

@@ -22,9 +22,9 @@ in_range_lem (inf true) e = absurd (subst T (sym e) tt)
 in_range_lem (inf false) e = absurd (subst T (sym e) tt)
 in_range_lem (fin s m x) e = rw (check_kept (div binary64 (whole 1) (fin s m x)) (finite_within d_range_from d_range_to (div binary64 (whole 1) (fin s m x)) tt tt e), e)
 
-pub returns-then-ranged : goal.returns-then-ranged
+pub returns-then-in_d : goal.returns-then-in_d
 unfolding of_bits decimal whole scaled round
-returns-then-ranged c = in_range_lem c.args.v.0 (sym c.ranged.ensures ∙ c.if-ranged.true)
+returns-then-in_d c = in_range_lem c.args.v.0 (sym c.in_d.ensures ∙ c.if-in_d.true)
 
 pub returns : goal.returns
 unfolding of_bits decimal whole scaled

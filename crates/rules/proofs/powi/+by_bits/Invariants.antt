@@ -2,4 +2,4 @@
 use Rattle.rules.proofs.powi.+by_bits.Given as goal
 
 abbrev pub decreases-by_bits : goal.decreases-by_bits
-decreases-by_bits l = l.n
+decreases-by_bits g l = l.n

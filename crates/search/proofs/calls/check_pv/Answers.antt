@@ -1,25 +1,25 @@
 -- `search::check_pv` meets its contract: each return by the tests that led there. Assumes nothing.
-use mathlib.Core.Path.{sym, ◌∙◌}
+use mathlib.Core.Path.{sym}
 use lib.Ieee.{of_bits, round}
 use Rattle.common.specs.Decimal.{decimal, whole, scaled}
 use Rattle.search.proofs.calls.check_pv.Goals as goal
 
-pub returns-then-ranged : goal.returns-then-ranged
+pub returns-then-not-in_d : goal.returns-then-not-in_d
 unfolding of_bits decimal whole scaled round
-returns-then-ranged c =
+returns-then-not-in_d c =
     rw (
-      sym c.is_finite.ensures ∙ c.if-is_finite.true,
-      sym c.is_finite-then-is_finite.ensures ∙ c.if-is_finite-2.true,
-      sym c.in_p.ensures ∙ c.if-in_p.true,
-      sym c.ranged.ensures ∙ c.if-ranged.true,
+      sym c.if-not-is_finite.ensures,
+      sym c.if-not-is_finite-2.ensures,
+      sym c.if-not-in_p.ensures,
+      sym c.if-not-in_d.ensures,
     )
 
-pub returns-then-in_p : goal.returns-then-in_p
+pub returns : goal.returns
 unfolding of_bits decimal whole scaled round
-returns-then-in_p c =
+returns c =
     rw (
-      sym c.is_finite.ensures ∙ c.if-is_finite.true,
-      sym c.is_finite-then-is_finite.ensures ∙ c.if-is_finite-2.true,
-      sym c.in_p.ensures ∙ c.if-in_p.true,
-      sym c.ranged.ensures ∙ c.if-ranged.false,
+      sym c.if-not-is_finite.ensures,
+      sym c.if-not-is_finite-2.ensures,
+      sym c.if-not-in_p.ensures,
+      sym c.if-not-in_d.ensures,
     )

@@ -1,16 +1,15 @@
 -- `search::pv2T_reg3` meets its contract: the box, then what is found. Assumes nothing.
-use mathlib.Core.Path.{ap, ◌∙◌}
+use mathlib.Core.Path.{sym, ◌∙◌}
 use lib.Ieee.{of_bits, round}
-use Rattle.common.specs.Outcome.{Outcome, then}
 use Rattle.common.specs.Decimal.{whole, scaled}
-use Rattle.secant.specs.declared.Curve.TheVariants.{Isochore}
-use Rattle.place.specs.AcceptedPlace.{found_on}
-use Rattle.search.specs.Calls.{density_by, pv2T_reg3_rule}
+use Rattle.common.proofs.Calls.{went_in, passed_on}
+use Rattle.search.specs.Calls.{pv2T_reg3_rule}
 use Rattle.search.proofs.calls.pv2T_reg3.Goals as goal
 
 pub returns : goal.returns
 unfolding pv2T_reg3_rule of_bits whole scaled round
-returns c =
-    let a = c.args in
-    c.found_in.ensures
-    ∙ ap (λ (o : Outcome Unit). then o (λ _. found_on (Isochore (record { 0 = density_by a.v.0 }) a.p))) c.check_pv.ensures
+returns c = c.found.ensures ∙ sym (went_in _ c.in_ok-check_pv.ensures)
+
+pub returns-in_err-check_pv : goal.returns-in_err-check_pv
+unfolding pv2T_reg3_rule
+returns-in_err-check_pv c = passed_on _ _ _ c.from_residual.ensures.1 c.in_err-check_pv.ensures

@@ -1,35 +1,49 @@
 -- `sum_rows::reply_to` meets its contract: its test is the definition's, and the table that is lent is the one that the row names.
-use Rattle.std.proofs.Common.{ℕ, List, ◌≡◌, ◌+◌, ◌*◌, ◌-◌, ◌≤◌, ◌<◌, true, false, length, get_or, take, drop, ap, ◌∙◌}
+use Rattle.std.proofs.Common.{Option, None, Some, Bor, sym, ℕ, List, ◌≡◌, ◌+◌, ◌*◌, ◌-◌, true, false, length, get_or, take, drop, ap, ◌∙◌, subst, ⊎_elim}
 use native.Mathlib.Omega.{arith}
 use lib.Dec.{leb}
-use lib.Ieee.{Float}
 use borrow.Author.Tests.{le-leb, lt-leb}
-use Rattle.sums_by_number.specs.declared.Sum.{Sum}
+use Rattle.std.specs.Slice.{IsGetRangeResult}
 use Rattle.sums_by_number.specs.Sums.{sum_of}
-use Rattle.sum_rows.specs.Table.{table_reply}
 use Rattle.sum_rows.specs.Row.{row_reply}
 use Rattle.sum_rows.proofs.row.reply_to.Goals as goal
 
-of_table : (s s' : Sum) (x x' y y' : Float) (b n : ℕ) (tables : List ℕ) → s ≡ s' → x ≡ x' → y ≡ y' → b ≡ n →
-    table_reply s x y (take ((1040 * b + 1040) - 1040 * b) (drop (1040 * b) tables)) ≡ table_reply s' x' y' (take 1040 (drop (1040 * n) tables))
-of_table s s' x x' y y' b n tables p q r e =
-    let d : (1040 * b + 1040) - 1040 * b ≡ 1040 = omega arith in
-    cc
+-- n bytes from a place on, where they are lent and where there are none
+module _ (xs : List ℕ) (from n : ℕ) (r : Option (Bor (List ℕ))) (h : IsGetRangeResult xs from (from + n) r) where
+  lent : (x : Bor (List ℕ)) → r ≡ Some x → (leb (from + n) (length xs) ≡ true) × (x.now ≡ take n (drop from xs))
+  lent x e =
+      let g = (subst (IsGetRangeResult xs from (from + n)) e h).0 in
+      let m : from + n - from ≡ n = omega arith in
+      (le-leb _ _ g.1, rw (← m) g.2)
 
-pub returns-then-next-tables : goal.returns-then-next-tables
+  missing : r ≡ None → leb (from + n) (length xs) ≡ false
+  missing e = ⊎_elim (λ l. absurd (omega (arith, l))) (λ l. lt-leb _ _ l) (subst (IsGetRangeResult xs from (from + n)) e h).0
+
+pub returns-in_default : goal.returns-in_default
 unfolding row_reply
-returns-then-next-tables c =
+returns-in_default c =
     let a = c.args in
-    let over : length a.tables.now < 1040 * get_or a.row.now 0 0 + 1040 = omega (arith, c.byte_at.ensures) in
-    let h : leb (1040 * get_or a.row.now 0 0 + 1040) (length a.tables.now) ≡ false = lt-leb _ _ over in
+    let b : c.from-at.result ≡ get_or a.row.now 0 0 = c.from-at.ensures ∙ c.byte_at.ensures in
+    let h : leb (1040 * get_or a.row.now 0 0 + 1040) (length a.tables.now) ≡ false = rw (← b) (missing _ _ 1040 _ c.get.ensures.lookup c.in_default.is) in
     rw h c.refused.ensures
 
-pub returns : goal.returns
+pub returns-in-Some-sum_of : goal.returns-in-Some-sum_of
 unfolding row_reply
-returns c =
+returns-in-Some-sum_of c =
     let a = c.args in
-    let there : 1040 * get_or a.row.now 0 0 + 1040 ≤ length a.tables.now = omega (arith, c.byte_at.ensures, c.if-next-tables.false) in
-    let h : leb (1040 * get_or a.row.now 0 0 + 1040) (length a.tables.now) ≡ true = le-leb _ _ there in
-    let sum : c.sum_of.result ≡ sum_of (get_or a.row.now 1 0) = c.sum_of.ensures ∙ ap sum_of c.byte_at-2.ensures in
-    rw h
-    (c.on_table.ensures ∙ of_table _ _ _ _ _ _ _ _ _ sum c.float_at.ensures c.float_at-2.ensures c.byte_at.ensures)
+    let b : c.from-at.result ≡ get_or a.row.now 0 0 = c.from-at.ensures ∙ c.byte_at.ensures in
+    let m = lent _ _ 1040 _ c.get.ensures.lookup c.in-Some.table c.in-Some.is in
+    let h : leb (1040 * get_or a.row.now 0 0 + 1040) (length a.tables.now) ≡ true = rw (← b) m.0 in
+    let t : c.in-Some.table.now ≡ take 1040 (drop (1040 * get_or a.row.now 0 0) a.tables.now) = rw (← b) m.1 in
+    let named : sum_of (get_or a.row.now 1 0) ≡ Some c.in-Some-sum_of.sum = sym (c.sum_of.ensures ∙ ap sum_of c.byte_at-2.ensures) ∙ c.in-Some-sum_of.is in
+    rw (h, named) (rw (c.float_at.ensures, c.float_at-in-Some-sum_of.ensures, t) at c.on_table.ensures)
+
+pub returns-in-None : goal.returns-in-None
+unfolding row_reply
+returns-in-None c =
+    let a = c.args in
+    let b : c.from-at.result ≡ get_or a.row.now 0 0 = c.from-at.ensures ∙ c.byte_at.ensures in
+    let m = lent _ _ 1040 _ c.get.ensures.lookup c.in-Some.table c.in-Some.is in
+    let h : leb (1040 * get_or a.row.now 0 0 + 1040) (length a.tables.now) ≡ true = rw (← b) m.0 in
+    let named : sum_of (get_or a.row.now 1 0) ≡ None = sym (c.sum_of.ensures ∙ ap sum_of c.byte_at-2.ensures) ∙ c.in-None.is in
+    rw (h, named) c.refused-in-None.ensures

@@ -1,6 +1,0 @@
--- `bands::band_cst` meets its contract: the saturation line is tested. Assumes nothing.
-use Rattle.bands.proofs.Lost.{if_one}
-use Rattle.bands.proofs.band_cst.Goals as goal
-
-pub returns : goal.returns
-returns c = rw (← c.bare_boundary-tcd.ensures, ← c.raw_T_saturation-tsat.ensures) (if_one _ c.answered.ensures c.by_cst.ensures)

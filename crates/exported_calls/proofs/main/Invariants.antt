@@ -1,6 +1,0 @@
--- The measure is how many rows are left to number. Assumes nothing.
-use Rattle.std.proofs.Common.{◌-◌}
-use Rattle.exported_calls.proofs.main.Given as goal
-
-abbrev pub decreases-loop-done : goal.decreases-loop-done
-decreases-loop-done l = 0xffff_ffff_ffff_ffff - l.done

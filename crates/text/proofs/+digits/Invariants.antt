@@ -1,5 +1,0 @@
--- `text::digits`: the measure is the number. Assumes nothing.
-use Rattle.text.proofs.+digits.Given as goal
-
-abbrev pub decreases-digits : goal.decreases-digits
-decreases-digits l = l.n
