@@ -1,33 +1,8 @@
--- `sum_rows::table::wholes_from` meets its contract: the next place is filled, and in the end all 64 are. Assumes nothing.
-use Rattle.std.proofs.Common.{ℕ, List, ◌+◌, ◌*◌, [], ◌∷◌, ℤ, pos, refl, ap, ◌∙◌, rules}
-use native.Mathlib.Nat.{le_antisymm}
-use Rattle.std.proofs.Math.ListN.{set, replicate, length-set}
-use Rattle.std.proofs.lemmas.List.Edits.{sets}
-use mir.Syntax.{w32}
-use mir.ValLaws.{to_z-of_z}
-use Rattle.buffer.specs.Bytes.{joined, int_in}
-use Rattle.sum_rows.proofs.Laws.{filled_more, filled}
+-- `sum_rows::table::wholes_from` meets its contract: the number at each index is what the closure answers there.
+use Rattle.std.proofs.Common.{◌+◌, ◌*◌, pos, rules}
+use Rattle.buffer.specs.Bytes.{int_in}
+use Rattle.sum_rows.proofs.Laws.{made}
 use Rattle.sum_rows.proofs.table.wholes_from.Goals as goal
 
-pub loop-k-init : goal.loop-k-init
-unfolding joined
-loop-k-init c = search rules
-
-pub loop-k-preserved : goal.loop-k-preserved
-loop-k-preserved c =
-    let l = c.loop-k in
-    let f : ℕ → ℤ = λ i. int_in c.args.table.now (c.args.at + 4 * i) in record {
-      same_length = simp length-set l.invariant.same_length;
-      passed =
-          ap (λ (x : ℤ). set l.column l.k x) (to_z-of_z w32 c.int_at.result (record { sfits = c.int_at.type_inv }) ∙ c.int_at.ensures)
-          ∙ filled_more f _ l.column l.k l.invariant.passed;
-    }
-
 pub returns : goal.returns
-returns c =
-    let l = c.loop-k in
-    let f : ℕ → ℤ = λ i. int_in c.args.table.now (c.args.at + 4 * i) in
-    let first : List ℤ = replicate 64 (pos 0) in
-    l.invariant.passed
-    ∙ ap (λ (n : ℕ). sets first 0 (joined (λ i. f i ∷ []) n)) (le_antisymm l.auto.k-end c.loop-k-test.false)
-    ∙ filled f first 64 refl
+returns c = made _ _ (λ k. int_in c.args.table.now (c.args.at + 4 * k)) (pos 0) (λ i x q k. search rules) _ 64 c.from_fn.ensures.items
