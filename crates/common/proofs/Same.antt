@@ -55,3 +55,8 @@ module _ {A : Type 0} where
 abbrev pub One : (n : ℕ) (ps : List (ParamKind n)) (r : ResultKind n) → Out n ps r → Type 0
 One n ps r post =
     (κs : Lfts n) (a : Dens κs ps) (e : AtExit (ended_of n ps r) κs) (x y : (res_t r κs).Denot) → post κs a x e → post κs a y e → x ≡ y
+
+-- of any arguments, a contract admits one value of what its result lends
+abbrev pub OneLent : (n : ℕ) (ps : List (ParamKind n)) (r : ResultKind n) → Out n ps r → {A : Type 0} → ((κs : Lfts n) → (res_t r κs).Denot → A) → Type 0
+OneLent n ps r post behind =
+    (κs : Lfts n) (a : Dens κs ps) (e : AtExit (ended_of n ps r) κs) (x y : (res_t r κs).Denot) → post κs a x e → post κs a y e → behind κs x ≡ behind κs y

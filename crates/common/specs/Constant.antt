@@ -65,10 +65,11 @@ sc_water = decimal 4_41202148223476 14
 abbrev pub TT : Float
 TT = decimal 273_16 2
 
--- all of them, in this order
+-- all of them, in this order; the last two are the box's ends again, where the saturation line begins
 unfoldable pub printed : List Float
 printed =
     p_range_from ∷ p_range_to ∷ t_range_from ∷ t_range_to ∷ d_range_from ∷ d_range_to ∷ h_range_from ∷ h_range_to ∷ s_range_from ∷ s_range_to
     ∷ p_max4 ∷ t_max4
     ∷ p_tol ∷ t_tol ∷ rgas_water ∷ tc_water ∷ pc_water ∷ dc_water ∷ sc_water ∷ TT
+    ∷ p_range_from ∷ t_range_from
     ∷ []

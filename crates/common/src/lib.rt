@@ -95,14 +95,14 @@ pub const H_RANGE: Interval = Interval {
 
 pub const S_RANGE: Interval = Interval { from: 3.3, to: 5.3 };
 
-// Where p and T lie on the saturation line.
+// Where p and T lie on the saturation line, from the box's own ends on.
 pub const P_SATURATED: Interval = Interval {
-    from: 16.529,
+    from: P_RANGE.from,
     to: 22.064,
 };
 
 pub const T_SATURATED: Interval = Interval {
-    from: 623.15,
+    from: T_RANGE.from,
     to: 647.096,
 };
 
@@ -176,7 +176,7 @@ pub const OFU: i32 = 34;
 pub const OALFAP: i32 = 35;
 
 // The ranges' ends and the constants, in the order of specs/Constant.antt: its contract is the one test that each literal is its decimal.
-pub fn constants() -> [f64; 20]
+pub fn constants() -> [f64; 22]
     ensures { result ≡ printed }
 {
     [
@@ -200,6 +200,8 @@ pub fn constants() -> [f64; 20]
         DC_WATER,
         SC_WATER,
         TT,
+        P_SATURATED.from,
+        T_SATURATED.from,
     ]
 }
 

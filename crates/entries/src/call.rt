@@ -1,19 +1,19 @@
 // What each entry answers: a call of the library, and its answer's shape.
 ghost use Rattle.std.specs.Prelude.{◌≡◌};
-ghost use Rattle.entries.specs.Entries.{reply_rule};
+ghost use Rattle.entries.specs.Entries.{reply_rule, asked_rule};
 
 use crate::shape::{cp_w_reply, found_reply, row_reply, searched_reply};
 use boundary::sub_region3_pT;
 use common::{KJPerKg, KJPerKgK, Kelvin, KgPerM3, M3PerKg, MPa};
 use entry_numbers::Entry;
-use number_entries::{at_boundary, by_letter, by_phase};
+use number_entries::{UNKNOWN, at_boundary, by_letter, by_phase};
 use record::Record;
-use reply::{Reply, letter_reply, number_reply, record_reply};
+use reply::{Reply, letter_reply, number_reply, record_reply, refused};
 use volume_at::pT2v_reg3;
 
 // Kept: a match and no table of functions, since the entries take their arguments under different units.
 #[tactic(auto, unfolding(crate::specs::Entries::reply_rule))]
-pub fn answer(entry: Entry, n: i32, a: f64, b: f64) -> Reply
+fn named(entry: Entry, n: i32, a: f64, b: f64) -> Reply
     ensures { result ≡ reply_rule entry n a b }
 {
     let given = Record::default();
@@ -50,5 +50,15 @@ pub fn answer(entry: Entry, n: i32, a: f64, b: f64) -> Reply
         Entry::PvT => found_reply(search::pv2T_reg3(MPa(a), M3PerKg(b))),
         Entry::ThD => found_reply(search::Th2d_reg3(Kelvin(a), KJPerKg(b))),
         Entry::TsD => found_reply(search::Ts2d_reg3(Kelvin(a), KJPerKgK(b))),
+    }
+}
+
+// What an entry answers, and the refusal where a number names none.
+pub fn answer(entry: Option<Entry>, n: i32, a: f64, b: f64) -> Reply
+    ensures { result ≡ asked_rule entry n a b }
+{
+    match entry {
+        Some(entry) => named(entry, n, a, b),
+        None => refused(UNKNOWN),
     }
 }

@@ -6,8 +6,7 @@ ghost use Rattle.entries.specs.Rows.{reply_at, rows_in, replies_to};
 use crate::answer;
 use buffer::{byte_at, float_at, int_at};
 use entry_numbers::entry_of;
-use number_entries::UNKNOWN;
-use reply::{Reply, put_reply, refused};
+use reply::{Reply, put_reply};
 
 // Kept: an index and its bound, and no row of `chunks_exact`: the replies of a page need the index, so both would stand in the loop.
 #[tactic(auto, unfolding(crate::specs::Rows::reply_at))]
@@ -15,15 +14,12 @@ fn reply_at(s: &[u8], at: usize) -> Reply
     requires { at + 24 < 2 ^ 64 }
     ensures { result ≡ reply_at s.now at }
 {
-    match entry_of(byte_at(s, at)) {
-        Some(entry) => answer(
-            entry,
-            int_at(s, at + 4),
-            float_at(s, at + 8),
-            float_at(s, at + 16),
-        ),
-        None => refused(UNKNOWN),
-    }
+    answer(
+        entry_of(byte_at(s, at)),
+        int_at(s, at + 4),
+        float_at(s, at + 8),
+        float_at(s, at + 16),
+    )
 }
 
 // Answers the whole rows of a page, as far as their replies have room, and says how many.

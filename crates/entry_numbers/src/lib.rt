@@ -90,6 +90,7 @@ const ENTRIES: [Option<Entry>; 38] = [
 
 // The entry that a number names, if any.
 // Kept: an Option and no TryFrom, since None says all there is to say of a number that names none: an error type would say no more.
+#[tactic(auto, unfolding(crate::specs::Numbers::entry_of))]
 pub fn entry_of(number: u8) -> Option<Entry>
     ensures { result ≡ entry_of number }
 {

@@ -49,9 +49,10 @@ fn word_of(b: &[u8]) -> u64
 
 // The first field is skipped, taken, or stops the reader: what was seen with it, and the bytes after it. Its length is held against the bytes that are left
 // before they are gone by.
-pub fn step(s: &[u8], seen: Seen) -> Result<(Seen, &[u8]), ReadRefusal>
+// Kept: what was seen is changed in its place: handed on by value it would be copied at each field that is skipped (docs/DESIGN-PASS.md has the times).
+pub fn step<'a>(s: &'a [u8], seen: &mut Seen) -> Result<&'a [u8], ReadRefusal>
     requires { 0 < length s.now }
-    ensures { MatchResult result (λ p. Passed s.now seen p.0 p.1.now) (λ k. Stops s.now seen (read_number k)) }
+    ensures { MatchResult result (λ rest. Passed s.now seen.old seen.new rest.now) (λ k. Stops s.now seen.old (read_number k)) }
 {
     let [tag, high, low, rest @ ..] = s else {
         return Err(ReadRefusal::PastEnd);
@@ -60,12 +61,14 @@ pub fn step(s: &[u8], seen: Seen) -> Result<(Seen, &[u8]), ReadRefusal>
     let Some((body, rest)) = rest.split_at_checked(size) else {
         return Err(ReadRefusal::PastEnd);
     };
-    let seen = match judge(seen.last(), *tag, size)? {
-        Fate::Skipped => seen,
-        Fate::Taken => seen.with(Known {
-            tag: *tag,
-            bits: word_of(body),
-        }),
-    };
-    Ok((seen, rest))
+    match judge(seen.last(), *tag, size)? {
+        Fate::Skipped => {}
+        Fate::Taken => {
+            *seen = seen.with(Known {
+                tag: *tag,
+                bits: word_of(body),
+            });
+        }
+    }
+    Ok(rest)
 }

@@ -44,7 +44,7 @@ pub fn read(s: &[u8]) -> Result<Asked, ReadRefusal>
     let mut seen = Seen::Nothing;
     // Kept: a while, since each field is as long as it says.
     while !rest.is_empty() {
-        (seen, rest) = step(rest, seen)?;
+        rest = step(rest, &mut seen)?;
     }
     finish(seen)
 }

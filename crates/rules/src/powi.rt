@@ -32,12 +32,17 @@ fn by_bits<const LOOKED: bool>(a: f64, r: f64, x: f64, n: u32) -> f64
     }
 }
 
+// Kept: two tests, one in the other: as one condition the compiler works the division for every n.
 fn power_by_bits<const LOOKED: bool>(a: f64, n: i32) -> f64
     ensures { result ≡ power_by_bits LOOKED a n }
 {
     let r = by_bits::<LOOKED>(a, 1.0, a, n.unsigned_abs());
-    if n < 0 && is_finite(r) {
-        kept::<LOOKED>(a, 1.0 / r)
+    if n < 0 {
+        if is_finite(r) {
+            kept::<LOOKED>(a, 1.0 / r)
+        } else {
+            r
+        }
     } else {
         r
     }

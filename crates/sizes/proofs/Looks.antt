@@ -1,27 +1,39 @@
 -- What the tests of an r and of a base say: that r is subnormal, and that the base is not 0. Assumes nothing.
 use mathlib.Core.Path.{◌≡◌, refl, ap}
 use mathlib.Core.Bool.{Bool, true, false, not, ◌&&◌, ◌||◌, beq}
-use Prim.Native.Nat.{ℕ, ◌*◌, ◌^◌, ◌<◌}
+use Prim.Native.Nat.{ℕ, ◌+◌, ◌*◌, ◌^◌, ◌<◌}
 use native.Mathlib.Nat.{mul-pos, one-mul}
 use native.Mathlib.Omega.{arith}
 use lib.Dec.{eqb, ltb}
 use lib.IntN.{pos, negsuc}
 use lib.Ieee.{Float, nan, inf, fin, up, down, lt, eq, ne}
-use Rattle.std.specs.Float.{float_with_sign}
-use lib.Ieee.Fits.{up_pos}
-use borrow.Author.Tests.{eqb-true, eqb-false, eq-eqb, ne_eqb}
+use lib.Ieee.Fits.{up_pos, down_pos}
+use borrow.Author.Tests.{lt-ltb, eqb-true, eqb-false, eq-eqb, ne_eqb}
 use Rattle.sizes.specs.Lost.{subnormal, is_zero, looked}
 
 -- 2^-1022 and its opposite
 abbrev pub least : Bool → Float
 least s = fin s 1 (negsuc 1021)
 
--- what is below it without its sign is subnormal
-pub below_least : (r : Float) → lt (float_with_sign false r) (least false) ≡ subnormal r
-unfolding lt float_with_sign
-below_least nan = refl
-below_least (inf s) = refl
-below_least (fin s m e) = ap (ltb (m * up e * 2 ^ 1022)) (one-mul (down e))
+-- N/D of it, as `lt` holds a number above 0 and one below to both
+both_up : (N D : ℕ) → 0 < D → (ltb 0 (1 * D + N) && ltb N (1 * D)) ≡ ltb N D
+both_up N D p = rw (lt-ltb 0 (1 * D + N) (omega (arith, p)), one-mul D)
+
+both_down : (N D : ℕ) → 0 < D → (ltb N (1 * D) && ltb 0 (N + 1 * D)) ≡ ltb N D
+both_down N D p = rw (lt-ltb 0 (N + 1 * D) (omega (arith, p)), one-mul D, kept (ltb N D))
+  where
+    kept : (b : Bool) → (b && true) ≡ b
+    kept true = refl
+    kept false = refl
+
+-- what lies strictly between the two is subnormal
+pub between_least : (r : Float) → (lt (least true) r && lt r (least false)) ≡ subnormal r
+unfolding lt
+between_least nan = refl
+between_least (inf true) = refl
+between_least (inf false) = refl
+between_least (fin false m e) = both_up (m * up e * 2 ^ 1022) (down e) (down_pos e)
+between_least (fin true m e) = both_down (m * up e * 2 ^ 1022) (down e) (down_pos e)
 
 -- ---- the base
 

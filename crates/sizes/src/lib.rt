@@ -18,7 +18,7 @@ pub fn usual(a: f64) -> bool
 pub fn look(a: f64, r: f64) -> f64
     ensures { result ≡ looked a r }
 {
-    if a != 0.0 && r.abs() < f64::MIN_POSITIVE {
+    if -f64::MIN_POSITIVE < r && r < f64::MIN_POSITIVE && a != 0.0 {
         f64::NAN
     } else {
         r

@@ -1,20 +1,14 @@
 -- To believe: what a row of 24 bytes comes to. Its first two bytes name the table and the sum; vi and vj stand from bytes 8 and 16 on.
-use Rattle.std.specs.Prelude.{ℕ, ◌+◌, ◌*◌, cond, List, leb, length, get_or, take, drop, Option, None, Some, Float}
+use Rattle.std.specs.Prelude.{ℕ, ◌+◌, ◌*◌, cond, List, leb, length, get_or, take, drop}
 use Rattle.buffer.specs.Bytes.{float_in}
 use Rattle.reply.specs.declared.Reply.{Reply}
 use Rattle.reply.specs.Shape.{refused_by}
-use Rattle.sums_by_number.specs.declared.Sum.{Sum}
 use Rattle.sums_by_number.specs.Sums.{sum_of}
 use Rattle.sum_rows.specs.Table.{table_reply}
-
--- on a table
-abbrev pub sum_reply : Option Sum → Float → Float → List ℕ → Reply
-sum_reply None vi vj table = refused_by 255
-sum_reply (Some sum) vi vj table = table_reply sum vi vj table
 
 -- a table that does not exist is refused as a sum that does not
 unfoldable pub row_reply : List ℕ → List ℕ → Reply
 row_reply row tables =
     cond (leb (1040 * get_or row 0 0 + 1040) (length tables))
-    (sum_reply (sum_of (get_or row 1 0)) (float_in row 8) (float_in row 16) (take 1040 (drop (1040 * get_or row 0 0) tables)))
+    (table_reply (sum_of (get_or row 1 0)) (float_in row 8) (float_in row 16) (take 1040 (drop (1040 * get_or row 0 0) tables)))
     (refused_by 255)

@@ -18,8 +18,10 @@ pub fn reply_to(row: &[u8], tables: &[u8]) -> Reply
     let Some(table) = tables.get(at..at + TABLE) else {
         return refused(UNKNOWN);
     };
-    match sum_of(byte_at(row, 1)) {
-        Some(sum) => on_table(sum, float_at(row, 8), float_at(row, 16), table),
-        None => refused(UNKNOWN),
-    }
+    on_table(
+        sum_of(byte_at(row, 1)),
+        float_at(row, 8),
+        float_at(row, 16),
+        table,
+    )
 }

@@ -31,7 +31,7 @@ fn floats_from(table: &[u8], at: usize) -> [f64; 64]
 }
 
 // Kept: arrays with counts beside them, since a table's bytes are fixed so: three counts, and room for 64 rows in each column.
-pub fn on_table(sum: Sum, vi: f64, vj: f64, table: &[u8]) -> Reply
+pub fn on_table(sum: Option<Sum>, vi: f64, vj: f64, table: &[u8]) -> Reply
     ensures { result ≡ table_reply sum vi vj table.now }
 {
     let is = wholes_from(table, 16);

@@ -31,22 +31,25 @@ impl Writer<'_> {
         ensures lent { self.new.out.ghost_name ≡ self.old.out.ghost_name }
     {
         if lies(self.at, 20, self.out.len()) {
-            self.put_digits(n);
+            self.at = put_digits(self.out, self.at, n);
         }
     }
+}
 
-    // Kept: digits by hand: the library's `write!` promises nothing of what it writes to lent bytes.
-    fn put_digits(&mut self, n: u64)
-        requires { self.old.at + length (decimal n) ≤ length self.old.out.now }
-        ensures wrote { Wrote self.old.out.now self.old.at (decimal n) self.new.out.now self.new.at }
-        ensures lent { self.new.out.ghost_name ≡ self.old.out.ghost_name }
-    {
-        if n >= 10 {
-            self.put_digits(n / 10);
-        }
-        self.out[self.at] = digit(n);
-        self.at += 1;
+// The digits of a number from an index on. Answers the index after them.
+// Kept: digits by hand, since the library's `write!` promises nothing of what it writes to lent bytes; and an index that is handed on, no method of
+// `Writer`, whose index would be read from memory and written there for each digit (docs/DESIGN-PASS.md has the times).
+fn put_digits(out: &mut [u8], at: usize, n: u64) -> usize
+    requires { at + length (decimal n) ≤ length out.old }
+    ensures { Wrote out.old at (decimal n) out.new result }
+{
+    if n < 10 {
+        out[at] = digit(n);
+        return at + 1;
     }
+    let next = put_digits(out, at, n / 10);
+    out[next] = digit(n);
+    next + 1
 }
 
 fn digit(n: u64) -> u8

@@ -1,33 +1,39 @@
--- `sizes::look` meets its contract: its test is that of `looked`. Assumes nothing.
-use mathlib.Core.Path.{◌≡◌, refl, sym, ap, ◌∙◌}
+-- `sizes::look` meets its contract: its tests are those of `looked`. Assumes nothing.
+use mathlib.Core.Path.{◌≡◌, refl, sym, ◌∙◌}
 use mathlib.Core.Bool.{Bool, true, false, not}
 use lib.IntN.{pos}
-use lib.Ieee.{Float, fin, lt, ne, of_bits}
-use Rattle.std.specs.Float.{float_with_sign}
+use lib.Ieee.{Float, fin, lt, ne, of_bits, neg}
 use Rattle.sizes.specs.Lost.{subnormal, is_zero, looked}
-use Rattle.sizes.proofs.Looks.{least, below_least, no_zero}
+use Rattle.sizes.proofs.Looks.{least, between_least, no_zero}
 use Rattle.sizes.proofs.look.Goals as goal
-use Rattle.sizes.proofs.look.Goals.{else-a-via-then-a+else-abs, else-a-via-else-a}
+use Rattle.sizes.proofs.look.Goals.{else-r-via-then-r+then-r-2+else-a, else-r-via-then-r+else-r-2, else-r-via-else-r}
 
 not_zero : {b : Bool} (a : Float) → ne a (fin false 0 (pos 0)) ≡ b → not (is_zero a) ≡ b
 not_zero a h = sym (no_zero a) ∙ h
 
-below : {b : Bool} (r s : Float) → s ≡ float_with_sign false r → lt s (least false) ≡ b → subnormal r ≡ b
-below r s e h = sym (ap (λ (x : Float). lt x (least false)) e ∙ below_least r) ∙ h
+inside : (r : Float) → lt (least true) r ≡ true → lt r (least false) ≡ true → subnormal r ≡ true
+inside r h k = sym (between_least r) ∙ rw (h, k)
+
+above : (r : Float) → lt (least true) r ≡ true → lt r (least false) ≡ false → subnormal r ≡ false
+above r h k = sym (between_least r) ∙ rw (h, k)
+
+below : (r : Float) → lt (least true) r ≡ false → subnormal r ≡ false
+below r h = sym (between_least r) ∙ rw h
 
 zero : (b : Bool) (a r : Float) → subnormal r ≡ b → not (is_zero a) ≡ false → r ≡ looked a r
 zero true a r e h = rw (e, h)
 zero false a r e h = rw e
 
-pub returns-then-abs : goal.returns-then-abs
-unfolding of_bits
-returns-then-abs c = let a = c.args in rw (not_zero a.a c.if-a.true, below a.r _ c.abs.ensures.value c.if-abs.true)
+pub returns-then-a : goal.returns-then-a
+unfolding of_bits neg
+returns-then-a c = let a = c.args in rw (not_zero a.a c.if-a.true, inside a.r c.if-r.true c.if-r-2.true)
 
-pub returns-else-a : goal.returns-else-a
-unfolding of_bits
-returns-else-a c =
+pub returns-else-r : goal.returns-else-r
+unfolding of_bits neg
+returns-else-r c =
     let a = c.args in
-    elim c.else-a.branch [
-      | else-a-via-then-a+else-abs w ↦ rw (below a.r _ w.abs.ensures.value w.if-abs.false)
-      | else-a-via-else-a w ↦ zero _ a.a a.r refl (not_zero a.a w.if-a.false)
+    elim c.else-r.branch [
+      | else-r-via-then-r+then-r-2+else-a w ↦ zero _ a.a a.r refl (not_zero a.a w.if-a.false)
+      | else-r-via-then-r+else-r-2 w ↦ rw (above a.r w.if-r.true w.if-r-2.false)
+      | else-r-via-else-r w ↦ rw (below a.r w.if-r.false)
     ]

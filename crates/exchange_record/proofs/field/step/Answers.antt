@@ -20,7 +20,7 @@ pub returns-in_err-judge : goal.returns-in_err-judge
 returns-in_err-judge c =
     let p = err_from_is_err_and c.from_residual.result c.from_residual.ensures.1 in
     rw (p.1, p.2)
-    (stops c.args.s.now c.said-size.result c.in-len3-up.len_at_least c.said-size.ensures c.args.seen _ c.last.ensures _ _ c.in-Some.ensures.cases
+    (stops c.args.s.now c.said-size.result c.in-len3-up.len_at_least c.said-size.ensures c.args.seen.now _ c.last.ensures _ _ c.in-Some.ensures.cases
     _ (sym c.in_err-judge.ensures))
 
 pub word_of-requires : goal.word_of-requires
@@ -33,9 +33,9 @@ returns c =
     elim c.match-branch-2.branch [
       | in-Skipped w ↦
           rw w.seen-is
-          (passes c.args.s.now c.said-size.result c.in-len3-up.len_at_least c.said-size.ensures c.args.seen _ c.last.ensures _ _ c.in-Some.ensures.cases
+          (passes c.args.s.now c.said-size.result c.in-len3-up.len_at_least c.said-size.ensures c.args.seen.now _ c.last.ensures _ _ c.in-Some.ensures.cases
           (sym c.in_ok-judge.ensures ∙ ap (λ f. paper_fate (Ok f)) w.in-Skipped.is))
       | in-Taken w ↦
-          takes c.args.s.now c.said-size.result c.in-len3-up.len_at_least c.said-size.ensures c.args.seen _ c.last.ensures _ _ c.in-Some.ensures.cases
-          (sym c.in_ok-judge.ensures ∙ ap (λ f. paper_fate (Ok f)) w.in-Taken.is) _ (w.seen-is ∙ w.with-seen.ensures ∙ rw w.word_of.ensures)
+          takes c.args.s.now c.said-size.result c.in-len3-up.len_at_least c.said-size.ensures c.args.seen.now _ c.last.ensures _ _ c.in-Some.ensures.cases
+          (sym c.in_ok-judge.ensures ∙ ap (λ f. paper_fate (Ok f)) w.in-Taken.is) _ (w.seen-is ∙ w.with.ensures ∙ rw w.word_of.ensures)
     ]

@@ -6,7 +6,6 @@ use mir.ValLaws.{to_z-of_z}
 use Rattle.rules.specs.RawPower.{by_sign_of, kept}
 use Rattle.rules.proofs.SignOf.{all_bits, whole, inverse, lost}
 use Rattle.rules.proofs.powi.power_by_bits.Goals as goal
-use Rattle.rules.proofs.powi.power_by_bits.Goals.{else-n-lt0-via-then-n-lt0+else-is_finite, else-n-lt0-via-else-n-lt0}
 
 pub returns-then-is_finite : goal.returns-then-is_finite
 unfolding of_bits
@@ -18,6 +17,16 @@ returns-then-is_finite g c =
     (ap (by_sign_of f a.n) (sym (all_bits f a.n c.ranges.n a.a _ _ c.unsigned_abs.ensures.value c.by_bits-r.ensures))
     ∙ inverse f a.n c.by_bits-r.result (rw (to_z-of_z w32 a.n c.ranges.n) at c.if-n-lt0.true) (sym c.is_finite.ensures ∙ c.if-is_finite.true))
 
+pub returns-else-is_finite : goal.returns-else-is_finite
+unfolding of_bits
+returns-else-is_finite g c =
+    let a = c.args in
+    let f = kept _ a.a in
+    let r = c.by_bits-r.result in
+    sym
+    (ap (by_sign_of f a.n) (sym (all_bits f a.n c.ranges.n a.a _ _ c.unsigned_abs.ensures.value c.by_bits-r.ensures))
+    ∙ lost f a.n r (sym c.is_finite.ensures ∙ c.if-is_finite.false))
+
 pub returns-else-n-lt0 : goal.returns-else-n-lt0
 unfolding of_bits
 returns-else-n-lt0 g c =
@@ -26,7 +35,4 @@ returns-else-n-lt0 g c =
     let r = c.by_bits-r.result in
     sym
     (ap (by_sign_of f a.n) (sym (all_bits f a.n c.ranges.n a.a _ _ c.unsigned_abs.ensures.value c.by_bits-r.ensures))
-    ∙ elim c.else-n-lt0.branch [
-      | else-n-lt0-via-then-n-lt0+else-is_finite w ↦ lost f a.n r (sym w.is_finite.ensures ∙ w.if-is_finite.false)
-      | else-n-lt0-via-else-n-lt0 w ↦ whole f a.n r (rw (to_z-of_z w32 a.n c.ranges.n) at w.if-n-lt0.false)
-    ])
+    ∙ whole f a.n r (rw (to_z-of_z w32 a.n c.ranges.n) at c.if-n-lt0.false))

@@ -1,5 +1,5 @@
 -- `sum_rows::reply_to` meets its contract: its test is the definition's, and the table that is lent is the one that the row names.
-use Rattle.std.proofs.Common.{Option, None, Some, Bor, sym, ℕ, List, ◌≡◌, ◌+◌, ◌*◌, ◌-◌, true, false, length, get_or, take, drop, ap, ◌∙◌, subst, ⊎_elim}
+use Rattle.std.proofs.Common.{Option, None, Some, Bor, ℕ, List, ◌≡◌, ◌+◌, ◌*◌, ◌-◌, true, false, length, get_or, take, drop, ap, ◌∙◌, subst, ⊎_elim}
 use native.Mathlib.Omega.{arith}
 use lib.Dec.{leb}
 use borrow.Author.Tests.{le-leb, lt-leb}
@@ -27,23 +27,13 @@ returns-in_default c =
     let h : leb (1040 * get_or a.row.now 0 0 + 1040) (length a.tables.now) ≡ false = rw (← b) (missing _ _ 1040 _ c.get.ensures.lookup c.in_default.is) in
     rw h c.refused.ensures
 
-pub returns-in-Some-sum_of : goal.returns-in-Some-sum_of
+pub returns : goal.returns
 unfolding row_reply
-returns-in-Some-sum_of c =
+returns c =
     let a = c.args in
     let b : c.from-at.result ≡ get_or a.row.now 0 0 = c.from-at.ensures ∙ c.byte_at.ensures in
     let m = lent _ _ 1040 _ c.get.ensures.lookup c.in-Some.table c.in-Some.is in
     let h : leb (1040 * get_or a.row.now 0 0 + 1040) (length a.tables.now) ≡ true = rw (← b) m.0 in
     let t : c.in-Some.table.now ≡ take 1040 (drop (1040 * get_or a.row.now 0 0) a.tables.now) = rw (← b) m.1 in
-    let named : sum_of (get_or a.row.now 1 0) ≡ Some c.in-Some-sum_of.sum = sym (c.sum_of.ensures ∙ ap sum_of c.byte_at-2.ensures) ∙ c.in-Some-sum_of.is in
-    rw (h, named) (rw (c.float_at.ensures, c.float_at-in-Some-sum_of.ensures, t) at c.on_table.ensures)
-
-pub returns-in-None : goal.returns-in-None
-unfolding row_reply
-returns-in-None c =
-    let a = c.args in
-    let b : c.from-at.result ≡ get_or a.row.now 0 0 = c.from-at.ensures ∙ c.byte_at.ensures in
-    let m = lent _ _ 1040 _ c.get.ensures.lookup c.in-Some.table c.in-Some.is in
-    let h : leb (1040 * get_or a.row.now 0 0 + 1040) (length a.tables.now) ≡ true = rw (← b) m.0 in
-    let named : sum_of (get_or a.row.now 1 0) ≡ None = sym (c.sum_of.ensures ∙ ap sum_of c.byte_at-2.ensures) ∙ c.in-None.is in
-    rw (h, named) c.refused-in-None.ensures
+    let sum : c.sum_of.result ≡ sum_of (get_or a.row.now 1 0) = c.sum_of.ensures ∙ ap sum_of c.byte_at-2.ensures in
+    rw h (rw (sum, c.float_at.ensures, c.float_at-2.ensures, t) at c.on_table.ensures)

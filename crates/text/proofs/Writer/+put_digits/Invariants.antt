@@ -1,5 +1,0 @@
--- `text::Writer::put_digits`: the measure is the number. Assumes nothing.
-use Rattle.text.proofs.Writer.+put_digits.Given as goal
-
-abbrev pub decreases-put_digits : goal.decreases-put_digits
-decreases-put_digits l = l.n
