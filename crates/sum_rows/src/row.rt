@@ -18,10 +18,11 @@ pub fn reply_to(row: &[u8], tables: &[u8]) -> Reply
     let Some(table) = tables.get(at..at + TABLE) else {
         return refused(UNKNOWN);
     };
+    // Kept: the length once more. A compiler loses it through `get`, and then tests a bound for each number of the table (docs/DESIGN-PASS.md has the cost).
     on_table(
         sum_of(byte_at(row, 1)),
         float_at(row, 8),
         float_at(row, 16),
-        table,
+        &table[..TABLE],
     )
 }
