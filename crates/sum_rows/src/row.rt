@@ -18,10 +18,11 @@ pub fn reply_to(row: &[u8], tables: &[u8]) -> Reply
     let Some(table) = tables.get(at..at + TABLE) else {
         return refused(UNKNOWN);
     };
+    // Kept: the length once more. A compiler loses it through `get`, and then tests bounds while it reads the table's numbers (docs/DESIGN-PASS.md).
     on_table(
         sum_of(byte_at(row, 1)),
         float_at(row, 8),
         float_at(row, 16),
-        table,
+        &table[..TABLE],
     )
 }
